@@ -1,0 +1,11 @@
+pub mod Run
+pub mod Steady
+pub mod Went
+pub mod Growing
+pub mod Depth
+pub mod Same
+pub mod Light
+pub mod Examples
+pub mod Under
+pub mod Moves
+pub mod Numbering
