@@ -1,0 +1,14 @@
+pub mod Machines
+pub mod Longests
+pub mod Numbers
+pub mod Firsts
+pub mod SoFar
+pub mod Unique
+pub mod Moves
+pub mod Comments
+pub mod Characters
+pub mod Literals
+pub mod Numerals
+pub mod Wholes
+pub mod PlacesBehind
+pub mod Decided

@@ -1,0 +1,14 @@
+use Rattle.std.proofs.Common.{◌≤◌, ◌+◌, ◌^◌, length}
+use Rattle.rml_lex.specs.Reading.{Reads}
+use Rattle.rml_lex.proofs.tokens.read.Given as goal
+
+abbrev pub invariant-loop-rest : goal.invariant-loop-rest
+invariant-loop-rest l = record {
+  read : Reads l.text l.bytes l.fn.names l.rest l.place l.spots.items l.names;
+  line : l.place.line + length l.rest ≤ 1 + length l.bytes;
+  column : l.place.column + length l.rest ≤ 1 + length l.bytes;
+  room : length l.names + length l.rest ≤ 2 ^ 31 + length l.bytes;
+}
+
+abbrev pub decreases-loop-rest : goal.decreases-loop-rest
+decreases-loop-rest l = length l.rest

@@ -1,0 +1,11 @@
+pub mod Bytes
+pub mod Words
+pub mod Machine
+pub mod Comment
+pub mod Character
+pub mod Literal
+pub mod Number
+pub mod Spelling
+pub mod Places
+pub mod Reading
+pub mod Spells

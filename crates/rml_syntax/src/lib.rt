@@ -1,0 +1,12 @@
+//! What texts are made of: tokens with their places, and the trees that they spell. It has no reader and no printer.
+#![tactic(auto)]
+
+mod rules;
+mod texts;
+mod token;
+mod types;
+
+pub use rules::{Exp, Goal, Long, Pattern, Rule};
+pub use texts::{Decl, Text, Uses};
+pub use token::{Key, Lit, Mark, Spot, Token};
+pub use types::{ConBind, DataBind, Sig, TypeExp, TypeHead};
