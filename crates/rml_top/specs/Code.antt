@@ -1,0 +1,11 @@
+-- The exit status for each end. The numbers between are for ends that nothing gives yet.
+use Rattle.std.specs.Prelude.{ℕ}
+use Rattle.rml_top.specs.declared.status.Status.{Status}
+use Rattle.rml_top.specs.declared.status.Status.TheVariants.{Done, ReadFault, WriteFault, Memory, Unbuilt}
+
+abbrev pub code_of : Status → ℕ
+code_of (Done k) = 0
+code_of (ReadFault k) = 3
+code_of WriteFault = 4
+code_of Memory = 11
+code_of Unbuilt = 13
