@@ -1,0 +1,16 @@
+pub mod Tokens
+pub mod Trees
+pub mod SpelledNames
+pub mod SpelledTypes
+pub mod SpelledPatterns
+pub mod SpelledExpressions
+pub mod SpelledGoals
+pub mod SpelledTexts
+pub mod Reading
+pub mod Types
+pub mod Patterns
+pub mod Expressions
+pub mod Goals
+pub mod Texts
+pub mod Laws
+pub mod Limits

@@ -1,0 +1,15 @@
+//! The grammar of texts: what a list of tokens spells (a relation, one case for each production), and how it is read
+//! from the left with one token in hand (a grammar of functions, which the parser equals). It has no parser.
+#![tactic(auto)]
+
+mod fault;
+mod front;
+mod laws;
+mod limits;
+mod types;
+
+pub use fault::{Fault, ParseKind};
+pub use front::{Front, Opening};
+pub use laws::exact;
+pub use limits::{limits_counted, one_tree};
+pub use types::{Bracket, Types};

@@ -1,0 +1,4 @@
+pub mod Clauses
+pub mod Exact
+pub mod Loops
+pub mod Limited

@@ -1,0 +1,22 @@
+//! Reads the tree of a text from its tokens: recursive descent with one token in hand. Each function equals its namesake
+//! of the grammar of functions in `rml_grammar`. It has no lexer.
+#![tactic(auto)]
+
+mod answer;
+mod datatypes;
+mod declarations;
+mod expressions;
+mod goals;
+mod lists;
+mod patterns;
+mod rules;
+mod spots;
+mod stop;
+mod texts;
+mod types;
+
+pub use answer::{ParseErr, parse};
+pub use rml_grammar::ParseKind;
+
+#[cfg(test)]
+mod tests;
