@@ -1,0 +1,12 @@
+pub mod Seats
+pub mod Spelling
+pub mod Lines
+pub mod Written
+pub mod Parts
+pub mod Types
+pub mod Patterns
+pub mod Expressions
+pub mod Goals
+pub mod Texts
+pub mod Listing
+pub mod Printed

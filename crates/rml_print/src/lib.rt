@@ -1,0 +1,24 @@
+//! The printer: it writes a tree as the one text that the layout of docs/formats.md gives it, a signature in the same way,
+//! and tokens one on a line.
+//!
+//! A tree becomes lines of tokens (`text_lines`), and lines become bytes (`line_bytes`). Which brackets stand that leave no
+//! trace in a tree is one table, `is_bracketed`. It knows nothing of what a name means.
+#![tactic(auto)]
+
+mod declarations;
+mod expressions;
+mod goals;
+mod listing;
+mod page;
+mod patterns;
+mod printed;
+mod rules;
+mod seats;
+mod spelling;
+#[cfg(test)]
+mod tests;
+mod texts;
+mod types;
+
+pub use listing::print_tokens;
+pub use printed::{print_sig, print_tree};
