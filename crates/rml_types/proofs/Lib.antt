@@ -1,0 +1,14 @@
+pub mod ClassLists
+pub mod FiniteTypes
+pub mod Grown
+pub mod Growth
+pub mod LabelLists
+pub mod Pairs
+pub mod Roots
+pub mod Solutions
+pub mod Trees
+pub mod Turns
+pub mod Steps
+pub mod Substitutions
+pub mod Walks
+pub mod Written

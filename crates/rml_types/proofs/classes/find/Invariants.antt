@@ -1,0 +1,8 @@
+use Rattle.rml_types.proofs.ClassLists.{Found}
+use Rattle.rml_types.proofs.classes.find.Given as goal
+
+abbrev pub invariant-loop-parents : goal.invariant-loop-parents
+invariant-loop-parents l = Found l.initial.parents l.node l.parents l.at
+
+abbrev pub decreases-loop-parents : goal.decreases-loop-parents
+decreases-loop-parents l = l.at

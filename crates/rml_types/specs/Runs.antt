@@ -1,0 +1,69 @@
+-- Types made from their labels, and what a type with new nodes for its variables does to a graph.
+use Rattle.std.specs.Prelude.{◌≡◌, ℕ, ◌+◌, ◌-◌, ◌<◌, ◌≤◌, List, [], ◌∷◌, ◌++◌, length, take, drop, map, get_or, All}
+use Rattle.rml_types.specs.declared.form.TypeCon.{TypeCon}
+use Rattle.rml_types.specs.declared.form.TypeCon.TheVariants as con
+use Rattle.rml_types.specs.declared.scheme.Scheme.{Scheme}
+use Rattle.rml_types.specs.declared.tree.SchemeTree.{SchemeTree}
+use Rattle.rml_types.specs.Finite.{HasTypes, built}
+use Rattle.rml_types.specs.Instances.{IsInstance}
+use Rattle.rml_types.specs.Labels.{Label}
+use Rattle.rml_types.specs.Nodes.{Fits, Nodes}
+use Rattle.rml_types.specs.Schemes.{inst, unit}
+
+-- what a label makes of the types of its arguments, a variable being the type of its number in a list
+abbrev pub make : List SchemeTree → TypeCon → List SchemeTree → SchemeTree
+make vars (con.Fixed k) ts = get_or vars k unit
+make vars (con.Named c) ts = built (con.Named c) ts
+make vars con.Tuple ts = built con.Tuple ts
+make vars (con.Rel inputs) ts = built (con.Rel inputs) ts
+
+-- each label takes the types of its arguments off the end, and puts its own there
+abbrev pub run : List SchemeTree → List Label → List SchemeTree → List SchemeTree
+run vars [] ts = ts
+run vars (l ∷ ls) ts = run vars ls (take (length ts - l.1) ts ++ make vars l.0 (drop (length ts - l.1) ts) ∷ [])
+
+-- a variable is below a number
+abbrev pub InScope : ℕ → TypeCon → Type 0
+InScope vars (con.Fixed k) = k < vars
+InScope vars (con.Named c) = Unit {0}
+InScope vars con.Tuple = Unit {0}
+InScope vars (con.Rel inputs) = Unit {0}
+
+-- over so many types each label has its arguments, and one type is left in the end
+abbrev pub Ready : ℕ → List Label → ℕ → Type 0
+Ready vars [] n = n ≡ 1
+Ready vars (l ∷ ls) n = (l.1 ≤ n) × Fits l.0 l.1 × InScope vars l.0 × Ready vars ls (n - l.1 + 1)
+
+-- A graph grew: its nodes stay, and its finite types are those of the old graph, each extended.
+pub record Grows (old new : Nodes) : Type 0 where
+  pub failed : new.failed ≡ old.failed
+  pub count : length old.forms ≤ length new.forms
+  pub restricts : (types : ℕ → SchemeTree) → HasTypes new types → HasTypes old types
+  pub extends : (types : ℕ → SchemeTree) → HasTypes old types → (later : ℕ → SchemeTree) × HasTypes new later × ((n : ℕ) → n < length old.forms → later n ≡ types n)
+
+-- The node has exactly the instances of a scheme, whatever finite types the old graph has.
+pub record HasInstances (old new : Nodes) (node : ℕ) (scheme : Scheme) : Type 0 where
+  pub within : node < length new.forms
+  pub instances : (types : ℕ → SchemeTree) → HasTypes new types → IsInstance scheme (types node)
+  pub each : (types : ℕ → SchemeTree) (ts : List SchemeTree) → HasTypes old types
+      → (later : ℕ → SchemeTree) × HasTypes new later × ((n : ℕ) → n < length old.forms → later n ≡ types n) × (later node ≡ inst ts scheme.body)
+
+-- The first nodes are new and without forms, and may have any types.
+pub record Fresh (old new : Nodes) (nodes : List ℕ) : Type 0 where
+  pub within : (i : ℕ) → i < length nodes → get_or nodes i 0 < length new.forms
+  pub each : (types : ℕ → SchemeTree) (ts : List SchemeTree) → HasTypes old types
+      → (later : ℕ → SchemeTree) × HasTypes new later × ((n : ℕ) → n < length old.forms → later n ≡ types n) × ((k : ℕ) → k < length nodes → later (get_or nodes k 0) ≡ get_or ts k unit)
+
+-- A label was taken: of the nodes that were made, those of its arguments gave way to its own.
+pub record Placed (new : Nodes) (vars : List ℕ) (l : Label) (made later : List ℕ) : Type 0 where
+  pub within : All (λ n. n < length new.forms) later
+  pub count : length later ≡ length made - l.1 + 1
+  pub types : (types : ℕ → SchemeTree) → HasTypes new types
+      → map types later ≡ take (length made - l.1) (map types made) ++ make (map types vars) l.0 (drop (length made - l.1) (map types made)) ∷ []
+
+-- Some labels of all are left, over the nodes that were made of the others.
+pub record Placing (g : Nodes) (vars : List ℕ) (all ls : List Label) (made : List ℕ) : Type 0 where
+  pub ready : Ready (length vars) ls (length made)
+  pub vars_within : All (λ n. n < length g.forms) vars
+  pub within : All (λ n. n < length g.forms) made
+  pub types : (types : ℕ → SchemeTree) → HasTypes g types → run (map types vars) ls (map types made) ≡ run (map types vars) all []
