@@ -1,0 +1,2 @@
+pub mod AllSame
+pub mod ListItems
