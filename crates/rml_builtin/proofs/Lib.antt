@@ -1,0 +1,4 @@
+pub mod Digits
+pub mod Quotients
+pub mod Reading
+pub mod Keeping

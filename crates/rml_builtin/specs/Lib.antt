@@ -1,0 +1,13 @@
+pub mod Types
+pub mod Table
+pub mod Given
+pub mod Arguments
+pub mod Decimal
+pub mod Capped
+pub mod Integers
+pub mod Texts
+pub mod Lvars
+pub mod Vectors
+pub mod BuiltIns
+pub mod Made
+pub mod Keeps
