@@ -1,0 +1,72 @@
+-- Tables that fit, fact by fact.
+use Rattle.std.proofs.Common.{◌≡◌, Bool, true, false, IsTrue, refl, length, map}
+use Rattle.std.specs.Prelude.{◌&&◌, slice_get}
+use Rattle.std.specs.List.{list_all}
+use Rattle.rml_resolved.specs.declared.checked.Parts.{Parts}
+use Rattle.rml_resolved.specs.Beginning.{types_begin, cons_begin, relations_begin}
+use Rattle.rml_resolved.specs.Binding.{relation_binds}
+use Rattle.rml_resolved.specs.Circles.{has_no_circle, type_needs, val_needs}
+use Rattle.rml_resolved.specs.Fits.{counts_of, relation_fits, val_fits}
+use Rattle.rml_resolved.specs.Size.{relation_is_small, is_light}
+use Rattle.rml_resolved.specs.Typing.{type_def_fits, con_def_fits, is_main}
+use Rattle.rml_resolved.specs.Whole.{parts_begin, parts_fit, parts_end, rules_hold, is_program}
+
+-- both tests of two hold
+record Both (a b : Bool) : Type 0 where
+  pub first : IsTrue a
+  pub second : IsTrue b
+
+both : (a b : Bool) → IsTrue (a && b) → Both a b
+both true b h = record { first = refl; second = h }
+both false b h = absurd (cc)
+
+pub record Facts (p : Parts) : Type 0 where
+  pub types_first : IsTrue (types_begin p.names p.types)
+  pub cons_first : IsTrue (cons_begin p.names p.cons)
+  pub relations_first : IsTrue (relations_begin p.names p.rels)
+  pub types_fit : IsTrue (list_all (type_def_fits (length p.names) p.types) p.types)
+  pub cons_fit : IsTrue (list_all (con_def_fits (length p.names) p.types) p.cons)
+  pub vals_fit : IsTrue (list_all (val_fits (counts_of p.names p.vals p.rels) p.types p.cons) p.vals)
+  pub relations_fit : IsTrue (list_all (relation_fits (counts_of p.names p.vals p.rels) p.types p.cons) p.rels)
+  pub types_end : IsTrue (has_no_circle (map type_needs p.types))
+  pub vals_end : IsTrue (has_no_circle (map val_needs p.vals))
+  pub variables_bound : IsTrue (list_all relation_binds p.rels)
+  pub rules_small : IsTrue (list_all relation_is_small p.rels)
+  pub light : IsTrue (is_light p.vals p.rels)
+  pub main_fits : IsTrue (is_main p.gives (slice_get p.rels p.main))
+
+pub facts : (p : Parts) → IsTrue (is_program p) → Facts p
+facts p h =
+    let all = both (parts_begin p && parts_fit p && parts_end p) (rules_hold p) h in
+    let three = both (parts_begin p && parts_fit p) (parts_end p) all.first in
+    let two = both (parts_begin p) (parts_fit p) three.first in
+    let begins = both (types_begin p.names p.types && cons_begin p.names p.cons) (relations_begin p.names p.rels) two.first in
+    let begin = both (types_begin p.names p.types) (cons_begin p.names p.cons) begins.first in
+    let types = list_all (type_def_fits (length p.names) p.types) p.types in
+    let cons = list_all (con_def_fits (length p.names) p.types) p.cons in
+    let vals = list_all (val_fits (counts_of p.names p.vals p.rels) p.types p.cons) p.vals in
+    let rels = list_all (relation_fits (counts_of p.names p.vals p.rels) p.types p.cons) p.rels in
+    let fit = both (types && cons && vals) rels two.second in
+    let fit_more = both (types && cons) vals fit.first in
+    let fit_most = both types cons fit_more.first in
+    let ends = both (has_no_circle (map type_needs p.types)) (has_no_circle (map val_needs p.vals)) three.second in
+    let bound = list_all relation_binds p.rels in
+    let small = list_all relation_is_small p.rels in
+    let holds = both (bound && small && is_light p.vals p.rels) (is_main p.gives (slice_get p.rels p.main)) all.second in
+    let hold = both (bound && small) (is_light p.vals p.rels) holds.first in
+    let rules = both bound small hold.first in
+    record {
+      types_first = begin.first;
+      cons_first = begin.second;
+      relations_first = begins.second;
+      types_fit = fit_most.first;
+      cons_fit = fit_most.second;
+      vals_fit = fit_more.second;
+      relations_fit = fit.second;
+      types_end = ends.first;
+      vals_end = ends.second;
+      variables_bound = rules.first;
+      rules_small = rules.second;
+      light = hold.second;
+      main_fits = holds.second;
+    }

@@ -1,0 +1,7 @@
+pub mod Fits
+pub mod Binding
+pub mod Size
+pub mod Circles
+pub mod Typing
+pub mod Beginning
+pub mod Whole

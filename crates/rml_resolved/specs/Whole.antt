@@ -1,0 +1,32 @@
+-- Tables that make a program: every fact that a program keeps.
+use Rattle.std.specs.Prelude.{Bool, ◌&&◌, List, ℕ, length, map, slice_get}
+use Rattle.std.specs.List.{list_all}
+use Rattle.rml_resolved.specs.declared.tables.TypeDef.{TypeDef}
+use Rattle.rml_resolved.specs.declared.tables.ConDef.{ConDef}
+use Rattle.rml_resolved.specs.declared.tables.ValDef.{ValDef}
+use Rattle.rml_resolved.specs.declared.tables.RelDef.{RelDef}
+use Rattle.rml_resolved.specs.declared.checked.Parts.{Parts}
+use Rattle.rml_resolved.specs.Beginning.{types_begin, cons_begin, relations_begin}
+use Rattle.rml_resolved.specs.Binding.{relation_binds}
+use Rattle.rml_resolved.specs.Circles.{has_no_circle, type_needs, val_needs}
+use Rattle.rml_resolved.specs.Fits.{counts_of, relation_fits, val_fits}
+use Rattle.rml_resolved.specs.Size.{relation_is_small, is_light}
+use Rattle.rml_resolved.specs.Typing.{type_def_fits, con_def_fits, is_main}
+
+abbrev pub parts_begin : Parts → Bool
+parts_begin p = types_begin p.names p.types && cons_begin p.names p.cons && relations_begin p.names p.rels
+
+abbrev pub parts_fit : Parts → Bool
+parts_fit p =
+    list_all (type_def_fits (length p.names) p.types) p.types && list_all (con_def_fits (length p.names) p.types) p.cons
+    && list_all (val_fits (counts_of p.names p.vals p.rels) p.types p.cons) p.vals
+    && list_all (relation_fits (counts_of p.names p.vals p.rels) p.types p.cons) p.rels
+
+abbrev pub parts_end : Parts → Bool
+parts_end p = has_no_circle (map type_needs p.types) && has_no_circle (map val_needs p.vals)
+
+abbrev pub rules_hold : Parts → Bool
+rules_hold p = list_all relation_binds p.rels && list_all relation_is_small p.rels && is_light p.vals p.rels && is_main p.gives (slice_get p.rels p.main)
+
+abbrev pub is_program : Parts → Bool
+is_program p = parts_begin p && parts_fit p && parts_end p && rules_hold p

@@ -1,0 +1,158 @@
+//! Making a program of tables that fit.
+
+ghost use Rattle.std.specs.Prelude.{◌≡◌, ◌↔◌, IfOk, IfSome, IsSome, IsTrue};
+ghost use Rattle.std.specs.List.{list_all};
+ghost use Rattle.rml_resolved.specs.Fits.{relation_fits, val_fits};
+ghost use Rattle.rml_resolved.specs.Size.{relation_is_small};
+ghost use Rattle.rml_resolved.specs.Typing.{type_def_fits, con_def_fits};
+
+use crate::beginning::{do_cons_begin, do_relations_begin, do_types_begin};
+use crate::binding::are_variables_bound;
+use crate::circles::{do_types_end, do_vals_end};
+use crate::fits::{Counts, is_relation, is_val};
+use crate::program::Program;
+use crate::size::{are_light, are_rules_small};
+use crate::tables::{ConDef, RelDef, TypeDef, ValDef};
+use crate::typing::{can_be_main, is_con_def, is_type_def};
+use rml_base::{Bytes, Memory};
+use sqlite_items::Items;
+use std::alloc::Global;
+
+/// The tables of a program, which may not fit.
+#[derive(Drop)]
+pub struct Parts {
+    pub names: Items<Bytes>,
+    pub types: Items<TypeDef>,
+    pub cons: Items<ConDef>,
+    pub vals: Items<ValDef>,
+    pub rels: Items<RelDef>,
+    pub main: u32,
+    pub gives: bool,
+}
+
+fn are_types(names: usize, types: &[TypeDef]) -> bool
+    ensures { result ≡ list_all (type_def_fits names types.now) types.now }
+{
+    types.iter().all(|def| is_type_def(names, types, def))
+}
+
+fn are_cons(names: usize, types: &[TypeDef], cons: &[ConDef]) -> bool
+    ensures { result ≡ list_all (con_def_fits names types.now) cons.now }
+{
+    cons.iter().all(|def| is_con_def(names, types, def))
+}
+
+fn are_vals(counts: Counts, types: &[TypeDef], cons: &[ConDef], vals: &[ValDef]) -> bool
+    ensures { result ≡ list_all (val_fits counts types.now cons.now) vals.now }
+{
+    vals.iter().all(|val| is_val(counts, types, cons, val))
+}
+
+fn are_relations(counts: Counts, types: &[TypeDef], cons: &[ConDef], rels: &[RelDef]) -> bool
+    ensures { result ≡ list_all (relation_fits counts types.now cons.now) rels.now }
+{
+    rels.iter().all(|rel| is_relation(counts, types, cons, rel))
+}
+
+fn are_all_small(rels: &[RelDef]) -> bool
+    ensures { result ≡ list_all relation_is_small rels.now }
+{
+    rels.iter().all(|rel| are_rules_small(rel))
+}
+
+impl Parts {
+    ghost use Rattle.rml_resolved.specs.Whole.{parts_begin, parts_fit, parts_end, rules_hold, is_program};
+
+    fn do_begin(&self) -> bool
+        ensures { result ≡ parts_begin self.now }
+    {
+        do_types_begin(self.names.as_slice(), self.types.as_slice())
+            && do_cons_begin(self.names.as_slice(), self.cons.as_slice())
+            && do_relations_begin(self.names.as_slice(), self.rels.as_slice())
+    }
+
+    fn do_fit(&self) -> bool
+        ensures { result ≡ parts_fit self.now }
+    {
+        let counts = Counts {
+            names: self.names.len(),
+            vals: self.vals.len(),
+            rels: self.rels.len(),
+        };
+        let types = self.types.as_slice();
+        let cons = self.cons.as_slice();
+        are_types(counts.names, types)
+            && are_cons(counts.names, types, cons)
+            && are_vals(counts, types, cons, self.vals.as_slice())
+            && are_relations(counts, types, cons, self.rels.as_slice())
+    }
+
+    fn do_end(&self, alloc: Global) -> Result<bool, Memory>
+        ensures { IfOk result (λ b. b ≡ parts_end self.now) }
+    {
+        if do_types_end(alloc, self.types.as_slice())? {
+            do_vals_end(alloc, self.vals.as_slice())
+        } else {
+            Ok(false)
+        }
+    }
+
+    fn do_rules_hold(&self, alloc: Global) -> Result<bool, Memory>
+        ensures { IfOk result (λ b. b ≡ rules_hold self.now) }
+    {
+        let rels = self.rels.as_slice();
+        if are_variables_bound(alloc, rels)? {
+            Ok(
+                are_all_small(rels)
+                    && are_light(self.vals.as_slice(), rels)
+                    && can_be_main(self.gives, rels, self.main),
+            )
+        } else {
+            Ok(false)
+        }
+    }
+
+    fn is_whole(&self, alloc: Global) -> Result<bool, Memory>
+        ensures { IfOk result (λ b. b ≡ is_program self.now) }
+    {
+        if self.do_begin() && self.do_fit() && self.do_end(alloc)? {
+            self.do_rules_hold(alloc)
+        } else {
+            Ok(false)
+        }
+    }
+}
+
+impl Program {
+    ghost use Rattle.rml_resolved.specs.Whole.{is_program};
+
+    /// The program of these tables, where they fit. It is None exactly where one of the facts that a program keeps does
+    /// not hold.
+    pub fn checked(alloc: Global, parts: Parts) -> Result<Option<Program>, Memory>
+        ensures there { IfOk result (λ p. IsSome p ↔ IsTrue (is_program parts)) }
+        ensures same { IfOk result (λ o. IfSome o (λ p. (p.names ≡ parts.names) × (p.types ≡ parts.types) × (p.cons ≡ parts.cons)
+            × (p.vals ≡ parts.vals) × (p.rels ≡ parts.rels) × (p.main ≡ parts.main) × (p.gives ≡ parts.gives))) }
+    {
+        if !parts.is_whole(alloc)? {
+            return Ok(None);
+        }
+        let Parts {
+            names,
+            types,
+            cons,
+            vals,
+            rels,
+            main,
+            gives,
+        } = parts;
+        Ok(Some(Program {
+            names,
+            types,
+            cons,
+            vals,
+            rels,
+            main,
+            gives,
+        }))
+    }
+}

@@ -1,0 +1,20 @@
+//! Programs without names and scopes: trees in which each variable, constructor, val and relation is a number, the tables
+//! that these numbers lead into, and a `Program` that keeps that they fit. It knows nothing of texts and their order, nor
+//! of what a program does.
+#![tactic(auto)]
+
+mod beginning;
+mod binding;
+mod checked;
+mod circles;
+mod fits;
+mod program;
+mod size;
+mod tables;
+mod trees;
+mod typing;
+
+pub use checked::Parts;
+pub use program::Program;
+pub use tables::{ConDef, RRule, RelDef, TypeDef, ValDef};
+pub use trees::{Callee, RExp, RGoal, RPat};

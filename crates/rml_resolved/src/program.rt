@@ -1,0 +1,49 @@
+//! Programs.
+
+ghost use Rattle.std.specs.Prelude.{IsTrue, length, map, slice_get};
+ghost use Rattle.std.specs.List.{list_all};
+ghost use Rattle.rml_resolved.specs.Beginning.{types_begin, cons_begin, relations_begin};
+ghost use Rattle.rml_resolved.specs.Binding.{relation_binds};
+ghost use Rattle.rml_resolved.specs.Circles.{has_no_circle, type_needs, val_needs};
+ghost use Rattle.rml_resolved.specs.Fits.{counts_of, relation_fits, val_fits};
+ghost use Rattle.rml_resolved.specs.Size.{relation_is_small, is_light};
+ghost use Rattle.rml_resolved.specs.Typing.{type_def_fits, con_def_fits, is_main};
+
+use crate::tables::{ConDef, RelDef, TypeDef, ValDef};
+use rml_base::Bytes;
+use sqlite_items::Items;
+
+/// A program whose parts fit: each fact below is a test over the tables, named after what it says.
+#[derive(Drop)]
+pub struct Program {
+    /// The bytes of all names and text literals, by their numbers.
+    pub names: Items<Bytes>,
+    pub types: Items<TypeDef>,
+    pub cons: Items<ConDef>,
+    pub vals: Items<ValDef>,
+    pub rels: Items<RelDef>,
+    /// The number of the relation that a run calls.
+    pub main: u32,
+    /// Whether `main` gives an integer.
+    pub gives: bool,
+    // the tables begin with the built-in types, those of the prelude, their constructors and the prelude's relations
+    ghost types_first: { IsTrue (types_begin names types) },
+    ghost cons_first: { IsTrue (cons_begin names cons) },
+    ghost relations_first: { IsTrue (relations_begin names rels) },
+    // numbers lead into their tables, arguments are as many as declared, integers are in range, chains have two items,
+    // a val has no variable, a relation has a rule
+    ghost types_fit: { IsTrue (list_all (type_def_fits (length names) types) types) },
+    ghost cons_fit: { IsTrue (list_all (con_def_fits (length names) types) cons) },
+    ghost vals_fit: { IsTrue (list_all (val_fits (counts_of names vals rels) types cons) vals) },
+    ghost relations_fit: { IsTrue (list_all (relation_fits (counts_of names vals rels) types cons) rels) },
+    // no type stands for one that it is part of, and no val needs itself
+    ghost types_end: { IsTrue (has_no_circle (map type_needs types)) },
+    ghost vals_end: { IsTrue (has_no_circle (map val_needs vals)) },
+    // each variable is bound at one place and used only after it
+    ghost variables_bound: { IsTrue (list_all relation_binds rels) },
+    // a rule has no more parts than tokens, or eight; all rules and vals together are below 2 ^ 27
+    ghost rules_small: { IsTrue (list_all relation_is_small rels) },
+    ghost light: { IsTrue (is_light vals rels) },
+    // `main` is there, of the type that `gives` tells
+    ghost main_fits: { IsTrue (is_main gives (slice_get rels main)) },
+}
