@@ -1,0 +1,32 @@
+-- A val at a depth, how large its expression is, and the values of expressions one after another.
+use Rattle.std.proofs.Common.{◌≡◌, ℕ, zero, suc, ◌+◌, ◌-◌, ◌<◌, ◌≤◌, List, [], ◌∷◌, ◌++◌, map, drop, length, get_or, Option, Some, None, append_assoc, sym, ◌∙◌, add-one, drop-cons, refl, ap, inl, inr, arith}
+use Rattle.std.specs.Prelude.{slice_get, sum_by, option_map}
+use Rattle.std.proofs.lemmas.Option.{slice_get_cases, get_or_from_slice_get}
+use Rattle.std.proofs.lemmas.List.Sums.{get_or-le-sum_by}
+use Rattle.rml_resolved.specs.declared.program.Program.{Program}
+use Rattle.rml_value.specs.declared.value.Value.{Value}
+use Rattle.rml_resolved.specs.declared.trees.RExp.{RExp}
+use Rattle.rml_search.specs.Matching.{Env}
+use Rattle.rml_search.specs.Values.{Meaning, meaning, with_first, all_of, val_in, vals_to}
+
+pub vals_to-some : (p : Program) (depth k : ℕ) → 0 < depth → vals_to p depth k ≡ val_in (slice_get p.vals k) (λ e. meaning p.names (vals_to p (depth - 1)) e [])
+vals_to-some p zero k h = absurd (omega arith)
+vals_to-some p (suc depth) k h = let e : suc depth - 1 ≡ depth = omega arith in rw e refl
+
+pub part-le : {X : Type 0} (f : X → ℕ) (xs : List X) (i : ℕ) (x : X) → slice_get xs i ≡ Some x → f x ≤ sum_by f xs
+part-le f xs i x e =
+    elim (slice_get_cases xs i).1 [ inl h ↦ (let q : f (get_or xs i x) ≡ f x = ap f (get_or_from_slice_get xs i x x e) in omega (arith, get_or-le-sum_by f xs i x h.1, q)) | inr h ↦ absurd (let k = h.1 in cc) ]
+
+regroup : (done : List Value) (v : Value) (o : Option (List Value)) → option_map (λ rest. done ++ rest) (option_map (λ rest. v ∷ rest) o) ≡ option_map (λ rest. (done ++ v ∷ []) ++ rest) o
+regroup done v None = refl
+regroup done v (Some rest) = ap Some (sym (append_assoc done (v ∷ []) rest))
+
+-- one expression more
+pub all-more : (f : RExp → Meaning) (es : List RExp) (i : ℕ) (e : RExp) (env : Env) (v : Value) (done next : List Value) → i < length es → e ≡ get_or es i e → Some v ≡ f e env → next ≡ done ++ v ∷ []
+    → option_map (λ rest. done ++ rest) (all_of (map f (drop i es)) env) ≡ option_map (λ rest. next ++ rest) (all_of (map f (drop (i + 1) es)) env)
+all-more f es i e env v done next inside is held more =
+    let here : drop i es ≡ e ∷ drop (suc i) es = rw (drop-cons es i e, ← is) refl in
+    rw (add-one, more)
+    (ap (λ (ds : List RExp). option_map (λ rest. done ++ rest) (all_of (map f ds) env)) here
+    ∙ ap (λ (o : Option Value). option_map (λ rest. done ++ rest) (with_first o (all_of (map f (drop (suc i) es)) env))) (sym held)
+    ∙ regroup done v (all_of (map f (drop (suc i) es)) env))

@@ -1,0 +1,5 @@
+pub mod Matching
+pub mod Values
+pub mod Search
+pub mod Runs
+pub mod Growing
