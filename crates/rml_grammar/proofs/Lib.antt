@@ -33,3 +33,9 @@ pub mod LimitsTypes
 pub mod LimitsGoals
 pub mod LimitsTexts
 pub mod LimitsLaws
+pub mod LimitsLarger
+pub mod LimitsLargerExpressions
+pub mod LimitsLargerPatterns
+pub mod LimitsLargerTypes
+pub mod LimitsLargerGoals
+pub mod LimitsLargerTexts

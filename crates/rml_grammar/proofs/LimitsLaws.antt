@@ -58,25 +58,25 @@ cut-one (x ∷ a) (y ∷ b) u v e l =
     (cc, r.1)
 
 -- no list that begins with the tokens up to a fault has a tree within the limits
-refused-by : (end : Place) (n k left : ℕ) (front rest c tail other : List Spot) (x : Spot) (t : Text) (j : ParseKind) → front ≡ c → rest ≡ x ∷ tail → suc (length tail) ≡ left → whole_text end n k (c ++ x ∷ tail) ≡ Err (record { kind = j; left = left }) → IsAtLimit j n (suc k) front rest → Derives end (c ++ x ∷ other) t → WithinLimits n (suc k) (c ++ x ∷ other) → ⊥
-refused-by end n k left front rest c tail other x t kind.Unexpected f r l e a d h = placed end n k c tail other x t (rw l e) d
-refused-by end n k left front rest c tail other x t kind.TooDeep f r l e a d h =
+refused-by : (end at : Place) (n k left : ℕ) (front rest c tail other : List Spot) (x : Spot) (t : Text) (j : ParseKind) → front ≡ c → rest ≡ x ∷ tail → suc (length tail) ≡ left → whole_text end n k (c ++ x ∷ tail) ≡ Err (record { kind = j; left = left }) → IsAtLimit j n (suc k) front rest → Derives at (c ++ x ∷ other) t → WithinLimits n (suc k) (c ++ x ∷ other) → ⊥
+refused-by end at n k left front rest c tail other x t kind.Unexpected f r l e a d h = placed end at n k c tail other x t (rw l e) d
+refused-by end at n k left front rest c tail other x t kind.TooDeep f r l e a d h =
     let same : a.0 ≡ x = cc (r, a.2) in
     let less : open_after c < n = h.brackets c other x refl (subst (λ (s : Spot). OpensBracket s.token) same a.3) in
     let is : open_after c ≡ n = subst (λ (us : List Spot). open_after us ≡ n) f a.4 in
     omega arith
-refused-by end n k left front rest c tail other x t kind.TooManyRules f r l e a d h =
+refused-by end at n k left front rest c tail other x t kind.TooManyRules f r l e a d h =
     let same : a.0 ≡ x = cc (r, a.2) in
     let less : rules_after c < suc k = h.rules c other x refl (subst (λ (s : Spot). BeginsRule s.token) same a.3) in
     let is : rules_after c ≡ suc k = subst (λ (us : List Spot). rules_after us ≡ suc k) f a.4 in
     omega arith
 
-pub refused : (end : Place) (n k : ℕ) (c tail other : List Spot) (x : Spot) (f : Fault) (t : Text) → 0 < n → whole_text end n k (c ++ x ∷ tail) ≡ Err f → f.left ≡ suc (length tail) → Derives end (c ++ x ∷ other) t → WithinLimits n (suc k) (c ++ x ∷ other) → ⊥
-refused end n k c tail other x f t l e left d h =
+pub refused : (end at : Place) (n k : ℕ) (c tail other : List Spot) (x : Spot) (f : Fault) (t : Text) → 0 < n → whole_text end n k (c ++ x ∷ tail) ≡ Err f → f.left ≡ suc (length tail) → Derives at (c ++ x ∷ other) t → WithinLimits n (suc k) (c ++ x ∷ other) → ⊥
+refused end at n k c tail other x f t l e left d h =
     let s = fault-at end n k (c ++ x ∷ tail) f l e in
     let lefts : length (x ∷ tail) ≡ length s.rest = sym left ∙ sym s.left in
     let cut = cut-one c s.front (x ∷ tail) s.rest s.all lefts in
-    refused-by end n k f.left s.front s.rest c tail other x t f.kind (sym cut.0) (sym cut.1) (sym left) e s.limit d h
+    refused-by end at n k f.left s.front s.rest c tail other x t f.kind (sym cut.0) (sym cut.1) (sym left) e s.limit d h
 
 -- a token counts at most one
 open-sign : (d : ℕ) (m : Mark) → open_behind d (token.Sign m) ≤ d + 1

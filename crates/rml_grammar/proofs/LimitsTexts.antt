@@ -91,15 +91,15 @@ optional-by p h us (v.there {us = vs}) a = and-ends (h vs (over tt a)) (λ x b. 
 optional-by p h us (v.lacking o) a = rw o (went a)
 
 -- what stands first where another part begins is not passed
-spec-stays : (us vs : List Spot) → Opens us → g.spec_next us ≡ Some vs → us ≡ vs
+pub spec-stays : (us vs : List Spot) → Opens us → g.spec_next us ≡ Some vs → us ≡ vs
 spec-stays us vs (v.nothing o) e = absurd (cc (rw o at e))
 spec-stays us vs _ e = cc
 
-decl-stays : (us vs : List Spot) → Opens us → g.decl_next us ≡ Some vs → us ≡ vs
+pub decl-stays : (us vs : List Spot) → Opens us → g.decl_next us ≡ Some vs → us ≡ vs
 decl-stays us vs (v.nothing o) e = absurd (cc (rw o at e))
 decl-stays us vs _ e = cc
 
-uses-stays : (us vs : List Spot) → Opens us → g.uses_next us ≡ Some vs → us ≡ vs
+pub uses-stays : (us vs : List Spot) → Opens us → g.uses_next us ≡ Some vs → us ≡ vs
 uses-stays us vs (v.nothing o) e = absurd (cc (rw o at e))
 uses-stays us vs _ e = cc
 
@@ -108,16 +108,16 @@ all-uses {w} {d} {r} us a = repeated-end (At w d r) g.uses_next g.uses_at (λ us
 
 -- where no rule begins, or one that is one too many, or one more
 module _ (n : ℕ) where
-  none-begins : (k : ℕ) (us : List Spot) → g.clause_next us ≡ None → g.clauses_at n k us ≡ Ok ([], us)
+  pub none-begins : (k : ℕ) (us : List Spot) → g.clause_next us ≡ None → g.clauses_at n k us ≡ Ok ([], us)
   unfolding g.clauses_at
   none-begins zero us o = rw (o, g.clauses_at) refl
   none-begins (suc k) us o = rw (o, g.clauses_at) refl
 
-  no-more : (us vs : List Spot) → g.clause_next us ≡ Some vs → g.clauses_at n zero us ≡ refused kind.TooManyRules us
+  pub no-more : (us vs : List Spot) → g.clause_next us ≡ Some vs → g.clauses_at n zero us ≡ refused kind.TooManyRules us
   unfolding g.clauses_at
   no-more us vs o = rw (o, g.clauses_at) refl
 
-  one-more : (k : ℕ) (us vs : List Spot) → g.clause_next us ≡ Some vs → g.clauses_at n (suc k) us ≡ (g.clause_at n vs >>= λ r. g.clauses_at n k r.1 >>= λ rs. Ok (r.0 ∷ rs.0, rs.1))
+  pub one-more : (k : ℕ) (us vs : List Spot) → g.clause_next us ≡ Some vs → g.clauses_at n (suc k) us ≡ (g.clause_at n vs >>= λ r. g.clauses_at n k r.1 >>= λ rs. Ok (r.0 ∷ rs.0, rs.1))
   unfolding g.clauses_at
   one-more k us vs o = rw (o, g.clauses_at) refl
 

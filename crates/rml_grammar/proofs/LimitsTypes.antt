@@ -19,7 +19,7 @@ use Rattle.rml_grammar.proofs.Views.{Begins, begins, Has, has}
 use Rattle.rml_grammar.proofs.LimitsReading.{Whole, At, Ends, went, and-ends, unexpected-ends, Keeps, Further, full, further, inside-ends, over, leave, and-sign, and-close, repeated-end, repeated-keeps, separated-keeps, long-keeps}
 
 -- a name that stands first is not passed
-name-stays : (us vs : List Spot) → Begins us → name_next us ≡ Some vs → us ≡ vs
+pub name-stays : (us vs : List Spot) → Begins us → name_next us ≡ Some vs → us ≡ vs
 name-stays us vs v.a_name e = cc
 name-stays us vs (v.another o) e = absurd (cc (rw o at e))
 name-stays us vs _ e = absurd (cc)

@@ -7,7 +7,7 @@ use Rattle.rml_grammar.specs.declared.fault.Fault.{Fault}
 use Rattle.rml_grammar.specs.declared.fault.ParseKind.TheVariants as kind
 use Rattle.rml_grammar.specs.Laws.{Agrees, IsUnexpected, Sound, Complete, Placed}
 use Rattle.rml_grammar.specs.Reading.{◌>>=◌}
-use Rattle.rml_grammar.specs.SpelledTexts.{Derives}
+use Rattle.rml_grammar.specs.SpelledTexts.{Derives, a_text}
 use Rattle.rml_grammar.specs.Texts.{text_at, whole_by, whole_text}
 use Rattle.rml_grammar.proofs.Levels.{whole_is}
 use Rattle.rml_grammar.proofs.Holds.{Holds}
@@ -47,8 +47,14 @@ by-text end n k c tail other x t (Ok y) e (inr l) d = let h = left-of y.0 y.1 (s
 by-text end n k c tail other x t (Err f) e (inl q) d = no-tree end n k (c ++ x ∷ other) t (length (q.0 ++ x ∷ other)) (rw (whole_is end n k (c ++ x ∷ other), q.2) (let h = fault-of {X = Text} f (record { kind = kind.Unexpected; left = suc (length tail) }) e in rw h refl)) d
 by-text end n k c tail other x t (Err f) e (inr l) d = let h : f.left ≡ suc (length tail) = ap (λ (g : Fault). g.left) (fault-of {X = Text} f (record { kind = kind.Unexpected; left = suc (length tail) }) e) in absurd (omega arith)
 
+-- the tokens of a text are those of one that ends elsewhere
+ended : {at : Place} {us : List Spot} {t : Text} (end : Place) → Derives at us t → (u : Text) × Derives end us u
+ended end (a_text uses specs body decls) = (_, a_text uses specs body decls)
+
 pub placed : Placed
-placed end n k c tail other x t e d = by-text end n k c tail other x t (text_at end n k (c ++ x ∷ tail)) (rw (← whole_is end n k (c ++ x ∷ tail)) e) ((text-fine end n k).keeps x tail other c) d
+placed end at n k c tail other x t e d =
+    let same = ended end d in
+    by-text end n k c tail other x same.0 (text_at end n k (c ++ x ∷ tail)) (rw (← whole_is end n k (c ++ x ∷ tail)) e) ((text-fine end n k).keeps x tail other c) same.1
 
 by-within : (left : ℕ) (r : Result (Text × List Spot) Fault) (f : Fault) → Within left r → (r >>= λ y. whole_by y.0 y.1) ≡ Err f → f.left ≤ left
 by-within left (Ok (t, [])) f h e = absurd (cc e)

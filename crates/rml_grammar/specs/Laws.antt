@@ -32,6 +32,6 @@ Sound = (end : Place) (levels further : ℕ) (us : List Spot) (t : Text) → who
 abbrev pub Complete : Type 0
 Complete = (end : Place) (levels further : ℕ) (us : List Spot) (t : Text) → Derives end us t → Agrees (whole_text end levels further us) t
 
--- where a list is refused at a token, no list that begins with the tokens up to there has a tree
+-- where a list is refused at a token, no list that begins with the tokens up to there has a tree, wherever its text ends
 abbrev pub Placed : Type 0
-Placed = (end : Place) (levels further : ℕ) (c tail other : List Spot) (x : Spot) (t : Text) → IsUnexpected (suc (length tail)) (whole_text end levels further (c ++ x ∷ tail)) → Derives end (c ++ x ∷ other) t → ⊥
+Placed = (end at : Place) (levels further : ℕ) (c tail other : List Spot) (x : Spot) (t : Text) → IsUnexpected (suc (length tail)) (whole_text end levels further (c ++ x ∷ tail)) → Derives at (c ++ x ∷ other) t → ⊥

@@ -11,5 +11,5 @@ mod types;
 pub use fault::{Fault, ParseKind};
 pub use front::{Front, Opening};
 pub use laws::exact;
-pub use limits::{limits_counted, one_tree};
+pub use limits::{larger_limits, limits_counted, one_tree};
 pub use types::{Bracket, Types};

@@ -30,11 +30,11 @@ module _ (end : Place) (n k : ℕ) (us : List Spot) where
   pub only-of : (r : Result Text ParseErr) → Says end us r (whole_text end n k us) → (t : Text) → Derives end us t → IsExact t r
   only-of r h t d = by-read t r (whole_text end n k us) (complete end n k us t d) h
 
-  no-text : (f : Fault) → whole_text end n k us ≡ Err f → f.kind ≡ kind.Unexpected → (c tail other : List Spot) (x : Spot) (t : Text) → us ≡ c ++ x ∷ tail → suc (length tail) ≡ f.left → Derives end (c ++ x ∷ other) t → ⊥
-  no-text f e u c tail other x t cut left d =
+  no-text : (f : Fault) → whole_text end n k us ≡ Err f → f.kind ≡ kind.Unexpected → (at : Place) (c tail other : List Spot) (x : Spot) (t : Text) → us ≡ c ++ x ∷ tail → suc (length tail) ≡ f.left → Derives at (c ++ x ∷ other) t → ⊥
+  no-text f e u at c tail other x t cut left d =
       let h : whole_text end n k us ≡ Err (record { kind = kind.Unexpected; left = suc (length tail) }) = e ∙ ap Err (fault-is f.kind kind.Unexpected f.left (suc (length tail)) u (sym left)) in
       let i : IsUnexpected (suc (length tail)) (whole_text end n k (c ++ x ∷ tail)) = subst (λ (vs : List Spot). IsUnexpected (suc (length tail)) (whole_text end n k vs)) cut h in
-      placed end n k c tail other x t i d
+      placed end at n k c tail other x t i d
 
   fault-at : (p : Place) (f : Fault) → whole_text end n k us ≡ Err f → f.kind ≡ kind.Unexpected → p ≡ place_left end f.left us → IsUnexpectedAt end us p f.left
   fault-at p f e u is = record { within = whole-within end n k us f e; place = is; none = no-text f e u }

@@ -42,11 +42,11 @@ IsExact t (Err error.Memory) = Unit {0}
 IsExact t (Err (error.At p k)) = IsLimit k
 
 -- So many tokens are left at the place, of which the first is the unexpected one: no tokens that begin with those up to
--- it are a text's. Where none is left, the place is the end.
+-- it are a text's, wherever that ends. Where none is left, the place is the end.
 pub record IsUnexpectedAt (end : Place) (us : List Spot) (p : Place) (left : ℕ) : Type 0 where
   pub within : left ≤ length us
   pub place : p ≡ place_left end left us
-  pub none : (c tail other : List Spot) (x : Spot) (t : Text) → us ≡ c ++ x ∷ tail → suc (length tail) ≡ left → Derives end (c ++ x ∷ other) t → ⊥
+  pub none : (at : Place) (c tail other : List Spot) (x : Spot) (t : Text) → us ≡ c ++ x ∷ tail → suc (length tail) ≡ left → Derives at (c ++ x ∷ other) t → ⊥
 
 abbrev pub PlacedErr : Place → List Spot → ParseErr → Type 0
 PlacedErr end us error.Memory = Unit {0}

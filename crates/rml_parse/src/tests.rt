@@ -27,6 +27,9 @@ fn token(word: &[u8]) -> Token {
         b"let" => Token::Word(Key::KLet),
         b"not" => Token::Word(Key::KNot),
         b"as" => Token::Word(Key::KAs),
+        b"default" => Token::Word(Key::KDefault),
+        b"eqtype" => Token::Word(Key::KEqtype),
+        b"withtype" => Token::Word(Key::KWithtype),
         b"(" => Token::Sign(Mark::OpenRound),
         b")" => Token::Sign(Mark::CloseRound),
         b"[" => Token::Sign(Mark::OpenSquare),
@@ -462,6 +465,26 @@ fn faults(rt: HostRuntime) -> Result<(), Fail> {
         assert_eq!(rt;
             fault(rt.alloc(), text)?,
             Some((ParseKind::Unexpected, at)),
+            "in {text}"
+        );
+    }
+    Ok(())
+}
+
+/// No expression begins with a reserved word.
+#[test]
+fn words_out_of_place(rt: HostRuntime) -> Result<(), Fail> {
+    let words =
+        "abstype and as axiom datatype default end eqtype let module not of relation rule type val with withtype";
+    for word in words.as_bytes().split(|byte| *byte == b' ') {
+        let mut text = String::new(rt.alloc());
+        text.push_str("module m : end val x = ")?;
+        for byte in word {
+            text.push(char::from(*byte))?;
+        }
+        assert_eq!(rt;
+            fault(rt.alloc(), text.as_str())?,
+            Some((ParseKind::Unexpected, 8)),
             "in {text}"
         );
     }
