@@ -15,8 +15,12 @@ use Rattle.rml_syntax.specs.declared.token.Spot.{Spot}
 use Rattle.rml_syntax.specs.declared.token.Token.{Token}
 use Rattle.rml_syntax.specs.declared.token.Token.TheVariants as token
 use Rattle.rml_syntax.specs.declared.token.Lit.TheVariants as lit
-use Rattle.rml_base.specs.Numbering.{GrowsBy, number_in, with_name}
-use Rattle.rml_base.proofs.Callers.{name-bytes, name-given}
+use Rattle.rml_base.specs.Numbering.{GrowsBy, IsDistinct, number_in, with_name}
+use Rattle.rml_base.proofs.Callers.{name-bytes, name-given, name-known}
+use Rattle.rml_lex.specs.Numbered.{bytes_in, names_in, spots_in, token_in, with_names}
+use Rattle.std.specs.List.{flat_map}
+use Rattle.std.proofs.lemmas.Grind.{flat_map-append}
+use Rattle.std.proofs.lemmas.List.Sums.{fold-append}
 use Rattle.rml_lex.specs.declared.piece.Piece.{Piece}
 use Rattle.rml_lex.specs.declared.piece.LexKind.{LexKind}
 use Rattle.rml_lex.specs.declared.piece.Piece.TheVariants as piece
@@ -98,6 +102,55 @@ one-shown names at part (Some t) is = rw is.0 refl
 one-given : (names : List (List ℕ)) (at : Place) (part : Part) (t : Option Token) → IsTokenOf names part t → All (λ s. IsGiven (length names) s.token) (spots_at at t)
 one-given names at part None is = λ k d lt. absurd (omega arith)
 one-given names at part (Some t) is = λ k d lt. (let z : k ≡ 0 = omega arith in rw z is.1)
+
+-- what is shown grows by the token
+pub shown-more : (names names' : List (List ℕ)) (spots spots' : List Spot) (at : Place) (part : Part) (t : Option Token)
+    → All (λ s. IsGiven (length names) s.token) spots → GrowsBy 1 names names' → IsTokenOf names' part t → spots' ≡ spots ++ spots_at at t
+    → shown names' spots' ≡ shown names spots ++ map (λ t. (at, t)) (tokens_of part)
+shown-more names names' spots spots' at part t given grows is es =
+    rw (
+      es,
+      map-append {B = Place × Shown} (λ (s : Spot). (s.place, shown_token names' s.token)) spots (spots_at at t),
+      one-shown names' at part t is,
+      grows.1,
+      shown-kept names grows.0 spots given,
+    ) refl
+
+-- the names of tokens at one place
+names-at : (at : Place) (ts : List Shown) → names_in (map (λ t. (at, t)) ts) ≡ flat_map bytes_in ts
+names-at at [] = refl
+names-at at (t ∷ ts) = ap (λ ns. bytes_in t ++ ns) (names-at at ts)
+
+-- and so the names grow by those of the token
+pub numbers-more : (old names names' : List (List ℕ)) (spots spots' : List Spot) (at : Place) (part : Part)
+    → shown names' spots' ≡ shown names spots ++ map (λ t. (at, t)) (tokens_of part)
+    → names ≡ with_names old (names_in (shown names spots)) → names' ≡ with_names names (flat_map bytes_in (tokens_of part))
+    → names' ≡ with_names old (names_in (shown names' spots'))
+numbers-more old names names' spots spots' at part more was is =
+    let joined : names_in (shown names' spots') ≡ names_in (shown names spots) ++ flat_map bytes_in (tokens_of part) =
+    ap names_in more ∙ flat_map-append (λ (s : Place × Shown). bytes_in s.1) (shown names spots) (map (λ t. (at, t)) (tokens_of part)) ∙ ap (λ ns. names_in (shown names spots) ++ ns) (names-at at (tokens_of part)) in
+    is ∙ ap (λ ns. with_names ns (flat_map bytes_in (tokens_of part))) was ∙ sym (fold-append with_name old (names_in (shown names spots)) (flat_map bytes_in (tokens_of part))) ∙ sym (ap (with_names old) joined)
+
+-- a number that was given is that of its bytes
+token-numbered : (names : List (List ℕ)) (t : Token) → IsDistinct names → IsGiven (length names) t → t ≡ token_in names (shown_token names t)
+token-numbered names (token.Name k) d h = ap token.Name (sym (name-known names k d h))
+token-numbered names (token.TyVar k) d h = ap token.TyVar (sym (name-known names k d h))
+token-numbered names (token.Lit (lit.Text k)) d h = ap (λ n. token.Lit (lit.Text n)) (sym (name-known names k d h))
+token-numbered names (token.Lit (lit.Int i)) d h = refl
+token-numbered names (token.Lit (lit.Char v)) d h = refl
+token-numbered names (token.Word k) d h = refl
+token-numbered names (token.Dashes n) d h = refl
+token-numbered names (token.Sign m) d h = refl
+
+spot-numbered : (names : List (List ℕ)) (s : Spot) → IsDistinct names → IsGiven (length names) s.token → s ≡ record { token = token_in names (shown_token names s.token); place = s.place }
+spot-numbered names s d h = rw (← token-numbered names s.token d h) refl
+
+pub spots-numbered : (names : List (List ℕ)) (spots : List Spot) → IsDistinct names → All (λ s. IsGiven (length names) s.token) spots → spots ≡ spots_in names (shown names spots)
+spots-numbered names [] d h = refl
+spots-numbered names (s ∷ ss) d h =
+    let one = spot-numbered names s d (h 0 s (omega arith)) in
+    let more = spots-numbered names ss d (λ k e lt. h (suc k) e (omega arith)) in
+    ap (λ x. x ∷ ss) one ∙ ap (λ xs. record { token = token_in names (shown_token names s.token); place = s.place } ∷ xs) more
 
 pub reads-more : (text : ℕ) (bytes : List ℕ) (old : List (List ℕ)) (rest : List ℕ) (at : Place) (spots : List Spot) (names : List (List ℕ))
     (front more : List ℕ) (p : Piece) (t : Option Token) (after : Place) (spots' : List Spot) (names' : List (List ℕ))

@@ -5,7 +5,10 @@ use Rattle.rml_lex.specs.declared.piece.Piece.TheVariants as piece
 use Rattle.rml_lex.specs.Machine.{Longest}
 use Rattle.rml_lex.specs.Spelling.{whole}
 use Rattle.rml_lex.specs.Places.{place_after, start}
-use Rattle.rml_lex.specs.Reading.{Part, Reaches, IsSound, Faults, FirstFault, IsFault, Shown, Spelled, behind, marks, shown}
+use Rattle.rml_lex.specs.Reading.{AllGiven, Part, Reaches, IsSound, Faults, FirstFault, IsFault, Shown, Spelled, behind, marks, shown}
+use Rattle.rml_lex.specs.Numbered.{IsNumbered, names_in, spots_in, with_names}
+use Rattle.rml_lex.proofs.SoFar.{spots-numbered}
+use Rattle.rml_base.specs.Numbering.{IsDistinct}
 use Rattle.rml_lex.specs.declared.tokens.LexErr.{LexErr}
 use Rattle.rml_lex.specs.declared.tokens.LexErr.TheVariants as error
 use Rattle.rml_syntax.specs.declared.token.Spot.{Spot}
@@ -122,3 +125,11 @@ first-only text bytes names (Err (error.At p k)) place kind f ok fault =
     let same = same-fault fault.0 f.0 bytes fault.1 f.1 (start text) p place k kind fault.2 f.2 fault.3 f.3 in
     inl (rw (same.0, same.1) refl)
 first-only text bytes names (Err error.Memory) place kind f ok fault = inr refl
+
+-- the numbers, where the tokens are those that are spelled
+pub numbered-only : (text : ℕ) (bytes : List ℕ) (old new : List (List ℕ)) (r : Result (Vec Spot Global) LexErr) (spots : List (Place × Shown)) → Spelled text bytes spots → IfOk r (λ v. Spelled text bytes (shown new v.items))
+    → IfOk r (λ v. AllGiven (length new) v.items) → IfOk r (λ v. new ≡ with_names old (names_in (shown new v.items))) → IsDistinct new → IfOk r (λ v. IsNumbered old spots v.items new)
+numbered-only text bytes old new (Ok v) spots s ok given numbers d =
+    let same : shown new v.items ≡ spots = one-list text bytes (shown new v.items) spots ok s in
+    record { names = numbers ∙ ap (λ x. with_names old (names_in x)) same; tokens = spots-numbered new v.items d given ∙ ap (spots_in new) same }
+numbered-only text bytes old new (Err e) spots s ok given numbers d = tt

@@ -8,4 +8,5 @@ pub mod Number
 pub mod Spelling
 pub mod Places
 pub mod Reading
+pub mod Numbered
 pub mod Spells

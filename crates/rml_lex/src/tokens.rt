@@ -2,10 +2,12 @@
 
 ghost use Rattle.rml_base.specs.Numbering.{GrowsBy};
 ghost use Rattle.rml_base.specs.declared.place.Place.{Place};
-ghost use Rattle.rml_lex.specs.Reading.{AllGiven, FirstFault, IsFault, IsTokenOf, Shown, Spelled, shown};
+ghost use Rattle.rml_lex.specs.Reading.{AllGiven, FirstFault, IsFault, IsTokenOf, Shown, Spelled, shown, tokens_of};
+ghost use Rattle.rml_lex.specs.Numbered.{IsNumbered, bytes_in, names_in, with_names};
 ghost use Rattle.rml_lex.specs.declared.piece.LexKind.{LexKind};
 ghost use Rattle.rml_lex.specs.declared.tokens.LexErr.TheVariants as error;
-ghost use Rattle.std.specs.Prelude.{◌≡◌, ℕ, ◌<◌, ◌≤◌, ◌^◌, ◌-◌, List, length, IfErr, IfOk, MatchResult, ◌⊎◌};
+ghost use Rattle.std.specs.Prelude.{◌≡◌, ℕ, ◌<◌, ◌≤◌, ◌^◌, ◌-◌, List, length, IfErr, IfOk, MatchResult, OnOk, ◌⊎◌};
+ghost use Rattle.std.specs.List.{flat_map};
 
 use crate::character::unescape;
 use crate::next::next_piece;
@@ -51,6 +53,7 @@ fn token_of(
     requires some { 0 < length spelling.now }
     ensures token { IfOk result (λ t. IsTokenOf names.new (spelling.now, piece) t) }
     ensures names { GrowsBy 1 names.old names.new }
+    ensures numbers { OnOk result (names.new ≡ with_names names.old (flat_map bytes_in (tokens_of (spelling.now, piece)))) }
 {
     Ok(match piece {
         Piece::Blank | Piece::Comment | Piece::Faulty(_, _) => None,
@@ -69,8 +72,9 @@ fn token_of(
     })
 }
 
-/// The tokens of a text with their places, their names numbered by `names`, or the first fault. In both cases `names` may
-/// have grown, by at most as many names as there are bytes.
+/// The tokens of a text with their places, or the first fault. What the tokens name is numbered in the order of the tokens:
+/// with its old number where `names` knows it, and otherwise with the next one. After a fault `names` may have grown too, by
+/// at most as many names as there are bytes.
 pub fn lex(alloc: Global, text: u32, bytes: &[u8], names: &mut Names) -> Result<Vec<Spot>, LexErr>
     requires size { length bytes.now ≤ 1048576 }
     requires room { length names.old ≤ 2 ^ 31 }
@@ -80,9 +84,13 @@ pub fn lex(alloc: Global, text: u32, bytes: &[u8], names: &mut Names) -> Result<
     ensures names { GrowsBy (length bytes.now) names.old names.new }
     // What is spelled is given, and a first fault is named: but for want of memory, no other answer comes.
     ensures spelled { (spots : List (Place × Shown)) → Spelled text bytes.now spots → MatchResult result (λ v. shown names.new v.items ≡ spots) (λ e. e ≡ error.Memory) }
+    // The numbers of the tokens follow from the text and the old names.
+    ensures numbered { (spots : List (Place × Shown)) → Spelled text bytes.now spots → IfOk result (λ v. IsNumbered names.old spots v.items names.new) }
     ensures first { (place : Place) (kind : LexKind) → FirstFault text bytes.now place kind → MatchResult result (λ _. ⊥) (λ e. (e ≡ error.At place kind) ⊎ (e ≡ error.Memory)) }
 {
-    read(alloc, text, bytes, names)
+    let answer = read(alloc, text, bytes, names);
+    names.are_distinct();
+    answer
 }
 
 /// The same, piece by piece.
@@ -93,6 +101,7 @@ fn read(alloc: Global, text: u32, bytes: &[u8], names: &mut Names) -> Result<Vec
     ensures given { IfOk result (λ v. AllGiven (length names.new) v.items) }
     ensures fault { IfErr result (IsFault text bytes.now) }
     ensures names { GrowsBy (length bytes.now) names.old names.new }
+    ensures numbers { IfOk result (λ v. names.new ≡ with_names names.old (names_in (shown names.new v.items))) }
 {
     let mut spots = Vec::new(alloc);
     let mut place = start_place(text);

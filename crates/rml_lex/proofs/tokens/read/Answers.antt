@@ -1,7 +1,7 @@
 use Rattle.std.proofs.Common.{arith, ◌≡◌, ◌++◌, append-nil, length, refl}
 use Rattle.rml_lex.specs.Machine.{Longest}
 use Rattle.rml_lex.specs.Spelling.{whole}
-use Rattle.rml_lex.proofs.SoFar.{reads-more, sound, spots_at, no_spot, longest-pos, more_names}
+use Rattle.rml_lex.proofs.SoFar.{reads-more, sound, spots_at, no_spot, longest-pos, more_names, numbers-more, shown-more}
 use Rattle.rml_lex.proofs.tokens.read.Goals as goal
 use Rattle.rml_lex.proofs.tokens.read.Goals.{in-Some-2+in_ok-push, in_default-2}
 
@@ -19,6 +19,9 @@ loop-rest-preserved c =
           c.split_at.result.0.now c.split_at.result.1.now c.in-Some.piece c.in_ok-token.field-0 c.further-place.result c.match-branch-2.spots.items c.token_of.new.names
           c.loop-rest.invariant.read c.split_at.ensures.by_index.0 l (sound c.in-Some.piece c.in_default-piece.not-Faulty)
           c.in_ok-token.ensures.names c.in_ok-token.ensures.token c.further-place.ensures.value (spots_are c);
+      numbers = numbers-more c.args.names.now c.loop-rest.names c.token_of.new.names c.loop-rest.spots.items c.match-branch-2.spots.items c.loop-rest.place (c.split_at.result.0.now, c.in-Some.piece)
+          (shown-more c.loop-rest.names c.token_of.new.names c.loop-rest.spots.items c.match-branch-2.spots.items c.loop-rest.place (c.split_at.result.0.now, c.in-Some.piece) c.in_ok-token.field-0 c.loop-rest.invariant.read.given c.in_ok-token.ensures.names c.in_ok-token.ensures.token (spots_are c))
+          c.loop-rest.invariant.numbers c.in_ok-token.ensures.numbers;
       line = omega (arith, c.loop-rest.invariant.line, c.further-place.ensures.line_within, c.split_at.ensures.back_len, c.split_at.ensures.front_len);
       column = omega (arith, c.loop-rest.invariant.column, c.further-place.ensures.column_within, c.split_at.ensures.back_len, c.split_at.ensures.front_len);
       room = more_names c.loop-rest.names c.token_of.new.names (length c.split_at.result.1.now) (length c.loop-rest.rest.now) (length c.args.bytes.now) c.in-Some.length c.in_ok-token.ensures.names c.split_at.ensures.back_len (longest-pos c.loop-rest.rest.now c.in-Some.length c.in-Some.piece c.in-Some.ensures) c.loop-rest.invariant.room;
