@@ -120,7 +120,7 @@ text-characters at n cs vs rest (Then c v cs' vs' is are) =
     ap (λ l. text_from at n l) (append_assoc c cs' rest) ∙ text-character at n c v (cs' ++ rest) is ∙ text-characters (at + length c) (n + 1) cs' vs' rest are
     ∙ same-text (at + length c + length cs') (n + 1 + length vs') (at + length (c ++ cs')) (n + length (v ∷ vs')) rest (omega (arith, length-append c cs')) (omega arith)
 
-inside-text : (cs vs rest : List ℕ) → AreCharacters cs vs → text_inside (cs ++ rest) ≡ text_from (1 + length cs) (length vs) rest
+pub inside-text : (cs vs rest : List ℕ) → AreCharacters cs vs → text_inside (cs ++ rest) ≡ text_from (1 + length cs) (length vs) rest
 inside-text cs vs rest are = text-characters 1 0 cs vs rest are ∙ same-text (1 + length cs) (0 + length vs) (1 + length cs) (length vs) rest refl (omega arith)
 
 text-closed : (cs vs : List ℕ) (p : Piece) → AreCharacters cs vs → p ≡ closed_text (length vs) → Spells (34 ∷ cs ++ 34 ∷ []) p
@@ -154,7 +154,7 @@ char_from at f bs = whole_from char_stop char_step (char_state at f Between) bs
 same-char : (at at' : ℕ) (f : Option ℕ) (rest : List ℕ) → at ≡ at' → char_from at f rest ≡ char_from at' f rest
 same-char at at' f rest e = rw e refl
 
-char-first : (at : ℕ) (c : List ℕ) (v : ℕ) (rest : List ℕ) → IsCharacter c v → char_from at None (c ++ rest) ≡ char_from (at + length c) (Some v) rest
+pub char-first : (at : ℕ) (c : List ℕ) (v : ℕ) (rest : List ℕ) → IsCharacter c v → char_from at None (c ++ rest) ≡ char_from (at + length c) (Some v) rest
 char-first at c v rest is =
     let l = character_read char_stop char_step (char_state at None) (λ i r. char_moves (char_state at None i) r) (λ i b. refl) (λ i j. refl) c v rest is in
     let size = l.size in

@@ -151,7 +151,7 @@ data Seen (b : ℕ) : Type 0 where
 blank-on : (b : ℕ) (s : List ℕ) → is_digit b ≡ false → is_blank b ≡ true → whole (b ∷ s) ≡ ends piece.Blank s
 blank-on b s d e = rw (d, e) refl
 
-letter-on : (b : ℕ) (s : List ℕ) → is_digit b ≡ false → is_blank b ≡ false → is_letter b ≡ true → whole (b ∷ s) ≡ run is_name_byte (λ bs. name_piece (b ∷ bs)) s
+pub letter-on : (b : ℕ) (s : List ℕ) → is_digit b ≡ false → is_blank b ≡ false → is_letter b ≡ true → whole (b ∷ s) ≡ run is_name_byte (λ bs. name_piece (b ∷ bs)) s
 letter-on b s d e f = rw (d, e, f) refl
 
 other-on : (b : ℕ) (s : List ℕ) → is_digit b ≡ false → is_blank b ≡ false → is_letter b ≡ false → (b == 45) ≡ false → (b == 126) ≡ false → (b == 34) ≡ false → (b == 35) ≡ false → (b == 39) ≡ false → (b == 40) ≡ false → (b == 58) ≡ false → (b == 61) ≡ false
@@ -344,10 +344,10 @@ whole-spells (b ∷ bs) p w = by-seen b bs p (seen b) w
 blank-digit : (b : ℕ) → is_blank b ≡ true → is_digit b ≡ false
 blank-digit b e = grind (arith, nat_tests)
 
-letter-digit : (b : ℕ) → is_letter b ≡ true → is_digit b ≡ false
+pub letter-digit : (b : ℕ) → is_letter b ≡ true → is_digit b ≡ false
 letter-digit b e = grind (arith, nat_tests)
 
-letter-blank : (b : ℕ) → is_letter b ≡ true → is_blank b ≡ false
+pub letter-blank : (b : ℕ) → is_letter b ≡ true → is_blank b ≡ false
 letter-blank b e = grind (arith, nat_tests)
 
 name-whole : (s : List ℕ) → IsNameLike s → ((k : Key) → s ≡ word_spelling k → ⊥) → whole s ≡ Some piece.Name
@@ -355,7 +355,7 @@ name-whole s (b, bs, e, y, all) none =
     let no : word_of (b ∷ bs) ≡ None = no-word (b ∷ bs) (λ k is. none k (e ∙ is)) in
     rw e (letter-on b bs (letter-digit b y) (letter-blank b y) y ∙ run-whole is_name_byte (λ bs. name_piece (b ∷ bs)) bs all ∙ ap (λ r. Some (named r)) no)
 
-prime-on : (b : ℕ) (bs : List ℕ) → is_letter b ≡ true → whole (39 ∷ b ∷ bs) ≡ run is_name_byte (λ _. piece.TyVar) bs
+pub prime-on : (b : ℕ) (bs : List ℕ) → is_letter b ≡ true → whole (39 ∷ b ∷ bs) ≡ run is_name_byte (λ _. piece.TyVar) bs
 prime-on b bs y = rw y refl
 
 tyvar-whole : (s : List ℕ) → Spells s piece.TyVar → whole s ≡ Some piece.TyVar
@@ -398,7 +398,7 @@ real-spelled s r =
     let is : s ≡ i.sign ++ (i.digits ++ r.end) = r.spelled ∙ ap (λ l. l ++ r.end) i.spelled ∙ append_assoc i.sign i.digits r.end in
     ap (λ l. whole l) is ∙ signed-whole i.sign r.is_negative i.digits r.end i.sign_is i.digits_are ∙ real-whole r.is_negative i.digits r.end i.digits_are r.end_is
 
-dashes-on : (c : ℕ) (cs : List ℕ) → is_dash c ≡ true → whole (45 ∷ c ∷ cs) ≡ run is_dash (λ _. piece.Dashes) cs
+pub dashes-on : (c : ℕ) (cs : List ℕ) → is_dash c ≡ true → whole (45 ∷ c ∷ cs) ≡ run is_dash (λ _. piece.Dashes) cs
 dashes-on c cs e = rw e refl
 
 dashes-whole : (s : List ℕ) → 2 ≤ length s → list_all is_dash s ≡ true → whole s ≡ Some piece.Dashes

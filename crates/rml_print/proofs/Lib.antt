@@ -1,2 +1,15 @@
 pub mod Separated
 pub mod Lines
+pub mod Literals
+pub mod Spellings
+pub mod Neighbours
+pub mod Cuts
+pub mod Given
+pub mod Phrases
+pub mod Folds
+pub mod NamePhrases
+pub mod ExpPhrases
+pub mod PatternPhrases
+pub mod TypePhrases
+pub mod GoalPhrases
+pub mod TextPhrases

@@ -10,3 +10,5 @@ pub mod Goals
 pub mod Texts
 pub mod Listing
 pub mod Printed
+pub mod Printable
+pub mod Source

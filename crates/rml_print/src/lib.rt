@@ -2,12 +2,14 @@
 //! and tokens one on a line.
 //!
 //! A tree becomes lines of tokens (`text_lines`), and lines become bytes (`line_bytes`). Which brackets stand that leave no
-//! trace in a tree is one table, `is_bracketed`. It knows nothing of what a name means.
+//! trace in a tree is one table, `is_bracketed`. What printed bytes are read as is said by laws (`laws.rt`). It knows
+//! nothing of what a name means.
 #![tactic(auto)]
 
 mod declarations;
 mod expressions;
 mod goals;
+mod laws;
 mod listing;
 mod page;
 mod patterns;
@@ -20,5 +22,6 @@ mod tests;
 mod texts;
 mod types;
 
+pub use laws::{printed_is_read, printed_texts_are_read, texts_are_printable};
 pub use listing::print_tokens;
 pub use printed::{print_sig, print_tree};
