@@ -13,3 +13,14 @@ pub mod PatternPhrases
 pub mod TypePhrases
 pub mod GoalPhrases
 pub mod TextPhrases
+pub mod Shown
+pub mod OneReading
+pub mod ReadsTypes
+pub mod ReadsPatterns
+pub mod ReadsExpressions
+pub mod ReadsGoals
+pub mod ReadsRules
+pub mod ReadsDatatypes
+pub mod ReadsDeclarations
+pub mod ReadsTexts
+pub mod ReadBack

@@ -1,5 +1,5 @@
 -- How a loop writes items with a separator between them.
-use Rattle.std.proofs.Common.{◌≡◌, ℕ, zero, suc, ◌+◌, ◌<◌, ◌≤◌, List, [], ◌∷◌, ◌++◌, map, length, get_or, drop, refl, ap, sym, ◌∙◌, add-one, drop-cons, arith}
+use Rattle.std.proofs.Common.{◌≡◌, ℕ, zero, suc, ◌+◌, ◌<◌, ◌≤◌, List, [], ◌∷◌, ◌++◌, map, length, get_or, drop, refl, ap, sym, ◌∙◌, add-one, drop-cons}
 use Rattle.std.proofs.lemmas.Grind.{fold-append}
 use Rattle.std.proofs.lemmas.List.{drop_all}
 use Rattle.rml_syntax.specs.declared.token.Token.{Token}
@@ -57,7 +57,8 @@ loop-end {w = w} s f xs i so_far h =
 pub loop-begin : (s : Token) (ts : List (List Token)) (w : Written) → Goes w (separated s ts) w (remaining s 0 ts)
 loop-begin s ts w = record { same = ap (with_tokens w) (sym (remaining-all s ts)) }
 
-seats : {A : Type 0} (f : A → Printed) (seat : Seat) (xs : List A) → map (λ p. p seat) (map f xs) ≡ map (λ t. f t seat) xs
+-- trees that all stand in one seat
+pub seats : {A : Type 0} (f : A → Printed) (seat : Seat) (xs : List A) → map (λ p. p seat) (map f xs) ≡ map (λ t. f t seat) xs
 seats f seat [] = refl
 seats f seat (x ∷ xs) = ap (λ ts. f x seat ∷ ts) (seats f seat xs)
 

@@ -12,3 +12,5 @@ pub mod Listing
 pub mod Printed
 pub mod Printable
 pub mod Source
+pub mod Plain
+pub mod ReadsBack

@@ -1,8 +1,10 @@
-//! What printed bytes are read as. Each function is a law, and does nothing.
+//! What printed bytes are read as. Each function is a law, and does nothing. Together they give what `print_tree` says of
+//! reading back.
 
 ghost use Rattle.rml_print.specs.Lines.{Line, lines_bytes, spaced};
 ghost use Rattle.rml_print.specs.Printable.{AreReadAs, ArePrintable, IsPrintable};
 ghost use Rattle.rml_print.specs.Printed.{printed_sig, printed_text};
+ghost use Rattle.rml_print.specs.ReadsBack.{ReadsBack, ReadsNothingElse};
 ghost use Rattle.rml_print.specs.Source.{AreOfSomeBytes, IsOfSomeText, IsSigOfSomeText};
 ghost use Rattle.rml_print.specs.Texts.{text_lines};
 ghost use Rattle.rml_print.specs.Types.{sig_tokens};
@@ -30,4 +32,12 @@ pub fn texts_are_printable()
 pub fn printed_texts_are_read()
     ensures tree { (text : ℕ) (names : List (List ℕ)) (t : Text) → IsOfSomeText names t → AreReadAs text names (printed_text names t) (flat_map (λ l. l.tokens) (text_lines t)) }
     ensures signature { (text : ℕ) (names : List (List ℕ)) (s : Sig) → IsSigOfSomeText names s → AreReadAs text names (printed_sig names s) (sig_tokens s) }
+{}
+
+/// Where some tokens derive a tree, the tokens that the tree is printed as derive it too, at whatever places they stand:
+/// the same tree, but for its places and its counts of tokens, and no other. Nothing is said of limits: the brackets that
+/// are printed may nest further than those that were read.
+pub fn printed_tokens_derive()
+    ensures back { ReadsBack }
+    ensures nothing_else { ReadsNothingElse }
 {}

@@ -22,6 +22,8 @@ mod tests;
 mod texts;
 mod types;
 
-pub use laws::{printed_is_read, printed_texts_are_read, texts_are_printable};
+pub use laws::{
+    printed_is_read, printed_texts_are_read, printed_tokens_derive, texts_are_printable,
+};
 pub use listing::print_tokens;
 pub use printed::{print_sig, print_tree};
