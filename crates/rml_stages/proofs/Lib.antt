@@ -1,0 +1,7 @@
+pub mod Stops
+pub mod FewTokens
+pub mod OneReading
+pub mod OneReadingOfAll
+pub mod Causes
+pub mod Calls
+pub mod Turns

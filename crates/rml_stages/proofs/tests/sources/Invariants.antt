@@ -1,0 +1,6 @@
+use Rattle.std.proofs.Common.{◌≤◌, length}
+use Rattle.std.specs.Prelude.{All}
+use Rattle.rml_stages.proofs.tests.sources.Given as goal
+
+abbrev pub invariant-loop-text : goal.invariant-loop-text
+invariant-loop-text l = All (λ s. length s.bytes ≤ 1048576) l.sources.items
