@@ -15,21 +15,22 @@ use Rattle.rml_types.specs.declared.tree.SchemeTree.{SchemeTree}
 use Rattle.rml_types.specs.declared.tree.SchemeTree.TheVariants as tree
 use Rattle.rml_types.specs.Finite.{Adds, HasTypes, built, with_type}
 use Rattle.rml_types.specs.Labels.{Label, all_labels, labels}
-use Rattle.rml_types.specs.Nodes.{Fits, Nodes, form_of, with_node}
+use Rattle.rml_types.specs.Nodes.{Fits, HasNoFixed, Nodes, form_of, with_node}
 use Rattle.rml_types.specs.Runs.{Fresh, Grows, HasInstances, InScope, Placed, Placing, Ready, make, run}
 use Rattle.rml_types.specs.Schemes.{every, inst, unit, vars_below}
 use Rattle.rml_types.proofs.FiniteTypes.{drop-seam, induct-built, map-parts, nil-of}
-use Rattle.rml_types.proofs.Grown.{Equal, Less, More, order}
+use Rattle.rml_types.proofs.Grown.{Equal, Less, More, none-some, order, past-one}
 use Rattle.rml_types.proofs.LabelLists.{labels-built}
 use Rattle.rml_types.proofs.Substitutions.{below-Named, below-Rel, below-Tuple, below-Var, both, inst-Named, inst-Rel, inst-Tuple, inst-Var, named}
 
 pub grows-refl : (g : Nodes) → Grows g g
-grows-refl g = record { failed = refl; count = omega arith; restricts = λ types h. h; extends = λ types h. (types, h, λ n lt. refl) }
+grows-refl g = record { failed = refl; count = omega arith; unfixed = λ h. h; restricts = λ types h. h; extends = λ types h. (types, h, λ n lt. refl) }
 
 pub grows-trans : (a b c : Nodes) → Grows a b → Grows b c → Grows a c
 grows-trans a b c f g = record {
   failed = g.failed ∙ f.failed;
   count = (let p = f.count in let q = g.count in omega arith);
+  unfixed = λ h. g.unfixed (f.unfixed h);
   restricts = λ types h. f.restricts types (g.restricts types h);
   extends = λ types h. (
       let p = f.extends types h in
@@ -51,10 +52,19 @@ type-for-is : (types : ℕ → SchemeTree) (o : Option Form) (f : Form) → o �
 unfolding type-for
 type-for-is types o f e = ap (type-for types) e
 
-pub grows-by : (old new : Nodes) (form : Option Form) → new ≡ with_node old form → Adds old new form → Grows old new
-grows-by old new form e a = record {
+-- a node more that is no variable that stands fixed
+pub unfixed-more : (g : Nodes) (form : Option Form) → ((f : Form) (k : ℕ) → form ≡ Some f → f.con ≡ con.Fixed k → ⊥) → HasNoFixed g → HasNoFixed (with_node g form)
+unfixed-more g form other h n f k e q = elim (order n (length g.forms)) [
+  | Less lt ↦ h n f k (sym (get_or_append_left g.forms (form ∷ []) None n lt) ∙ e) q
+  | Equal same ↦ other f k (sym (get_or_at g.forms form [] None n (sym same)) ∙ e) q
+  | More gt ↦ none-some (past-one g.forms form n None gt) e
+]
+
+pub grows-by : (old new : Nodes) (form : Option Form) → ((f : Form) (k : ℕ) → form ≡ Some f → f.con ≡ con.Fixed k → ⊥) → new ≡ with_node old form → Adds old new form → Grows old new
+grows-by old new form other e a = record {
   failed = ap (λ (g : Nodes). g.failed) e;
   count = (let k = ap (λ (g : Nodes). length g.forms) e in let l = length-append old.forms (form ∷ []) in omega arith);
+  unfixed = λ h. subst HasNoFixed (sym e) (unfixed-more old form other h);
   restricts = a.restricts;
   extends = λ types h. (
     with_type types (length old.forms) (type-for types form),
@@ -102,7 +112,7 @@ fresh-more old mid new nodes node before f e a is = record {
   none-is g q = cc
 
 -- what a label makes of instances is the instance of what it makes
-make-inst : (vars : List SchemeTree) (c : TypeCon) (us : List SchemeTree) → make vars c (map (inst vars) us) ≡ inst vars (built c us)
+pub make-inst : (vars : List SchemeTree) (c : TypeCon) (us : List SchemeTree) → make vars c (map (inst vars) us) ≡ inst vars (built c us)
 make-inst vars (con.Fixed k) us = sym (inst-Var vars k)
 make-inst vars (con.Named c) us = sym (inst-Named vars c us)
 make-inst vars con.Tuple us = sym (inst-Tuple vars us)
@@ -120,7 +130,7 @@ make-inst vars (con.Rel k) us = ap (λ x. tree.Rel x (drop k (map (inst vars) us
 seam : {X : Type 0} (xs ys : List X) (n : ℕ) → n ≡ length ys → length (xs ++ ys) - n ≡ length xs
 seam xs ys n e = let l = length-append xs ys in omega arith
 
-run-label : (vars : List SchemeTree) (c : TypeCon) (n : ℕ) (ls : List Label) (ts us : List SchemeTree) → n ≡ length us → run vars ((c, n) ∷ ls) (ts ++ us) ≡ run vars ls (ts ++ make vars c us ∷ [])
+pub run-label : (vars : List SchemeTree) (c : TypeCon) (n : ℕ) (ls : List Label) (ts us : List SchemeTree) → n ≡ length us → run vars ((c, n) ∷ ls) (ts ++ us) ≡ run vars ls (ts ++ make vars c us ∷ [])
 run-label vars c n ls ts us e =
     ap (λ k. run vars ls (take k (ts ++ us) ++ make vars c (drop k (ts ++ us)) ∷ [])) (seam ts us n e)
     ∙ ap (λ xs. run vars ls (xs ++ make vars c (drop (length ts) (ts ++ us)) ∷ [])) (take-append_seam ts us)
@@ -145,7 +155,7 @@ runs-to vars = induct-built (RunsTo vars) (λ c us fits a ls ts.
     ∙ run-label vars c (length us) ls ts (map (inst vars) us) (sym (length-map us (inst vars)))
     ∙ ap (λ t. run vars ls (ts ++ t ∷ [])) (make-inst vars c us))
 
-every-append : (xs ys : List Bool) → IsTrue (every xs) → IsTrue (every ys) → IsTrue (every (xs ++ ys))
+pub every-append : (xs ys : List Bool) → IsTrue (every xs) → IsTrue (every ys) → IsTrue (every (xs ++ ys))
 every-append [] ys a b = b
 every-append (true ∷ xs) ys a b = every-append xs ys a b
 every-append (false ∷ xs) ys a b = cc
@@ -188,7 +198,7 @@ begun-runs vars t = ap (λ xs. run vars xs []) (sym (none (labels t))) ∙ runs-
   none [] = refl
   none (l ∷ ls) = ap (λ x. l ∷ x) (none ls)
 
-make-other : (vars : List SchemeTree) (c : TypeCon) (ts : List SchemeTree) → ((k : ℕ) → c ≡ con.Fixed k → ⊥) → make vars c ts ≡ built c ts
+pub make-other : (vars : List SchemeTree) (c : TypeCon) (ts : List SchemeTree) → ((k : ℕ) → c ≡ con.Fixed k → ⊥) → make vars c ts ≡ built c ts
 make-other vars (con.Fixed k) ts other = absurd (other k refl)
 make-other vars (con.Named c) ts other = refl
 make-other vars con.Tuple ts other = refl
@@ -200,6 +210,12 @@ pub record Labelled (old new : Nodes) (c : TypeCon) (args vars : List ℕ) (r : 
   pub within : IfOk r (λ n. n < length new.forms)
   pub types : IfOk r (λ n. (types : ℕ → SchemeTree) → HasTypes new types → types n ≡ make (map types vars) c (map types args))
 
+some-of : {f g : Form} → Some f ≡ Some g → f ≡ g
+some-of e = cc
+
+pub no-form : (f : Form) (k : ℕ) → None ≡ Some f → f.con ≡ con.Fixed k → ⊥
+no-form f k e q = none-some refl e
+
 pub labelled : (old new : Nodes) (c : TypeCon) (args vars : List ℕ) (r : Result ℕ Memory) → ((k : ℕ) → c ≡ con.Fixed k → ⊥) → IfOk r (λ n. n ≡ length old.forms)
     → OnOk r (new ≡ with_node old (Some (record { con = c; args = args }))) → OnOk r (Adds old new (Some (record { con = c; args = args }))) → OnErr r (new ≡ old) → Labelled old new c args vars r
 labelled old new c args vars (Err e) other node ok types err = record { grows = subst (Grows old) (sym err) (grows-refl old); within = tt; types = tt }
@@ -209,7 +225,7 @@ labelled old new c args vars (Ok n) other node ok types err =
     let l = length-append old.forms (Some f ∷ []) in
     let at : form_of new n ≡ Some f = ap (λ (g : Nodes). form_of g n) ok ∙ get_or_at old.forms (Some f) [] None n (sym node) in
     record {
-      grows = grows-by old new (Some f) ok types;
+      grows = grows-by old new (Some f) (λ g k q r. other k (ap (λ (x : Form). x.con) (some-of q) ∙ r)) ok types;
       within = omega arith;
       types = λ sigma h. h.forms n f at ∙ sym (make-other (map sigma vars) c (map sigma args) other);
     }

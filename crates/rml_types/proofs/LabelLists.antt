@@ -1,7 +1,7 @@
 -- The labels of types, and how a walk lists them.
-use Rattle.std.proofs.Common.{◌≡◌, ℕ, ◌+◌, ◌<◌, List, [], ◌∷◌, ◌++◌, length, map, take, drop, reverse, refl, sym, ap, ◌∙◌, arith, append_assoc, length-append}
+use Rattle.std.proofs.Common.{◌≡◌, ℕ, ◌+◌, ◌-◌, ◌<◌, ◌≤◌, List, [], ◌∷◌, ◌++◌, length, map, take, drop, reverse, refl, sym, ap, ◌∙◌, arith, append_assoc, length-append, subst}
 use Rattle.std.proofs.Math.Seq.{take-append_seam}
-use Rattle.std.proofs.lemmas.List.{map-append, length-map, length-take-le, reverse-append}
+use Rattle.std.proofs.lemmas.List.{append-nil, map-append, length-drop, length-map, length-take-le, reverse-append, take-append-drop}
 use Rattle.rml_types.specs.declared.form.TypeCon.{TypeCon}
 use Rattle.rml_types.specs.declared.form.TypeCon.TheVariants as con
 use Rattle.rml_types.specs.declared.tree.SchemeTree.{SchemeTree}
@@ -68,3 +68,17 @@ walk-falls old new t label e =
     let b = length-append (all_labels new) (label ∷ []) in
     let c = length-append (all_labels (old ++ t ∷ [])) [] in
     omega (arith, a, b, c)
+
+one-type : (t : SchemeTree) → all_labels (t ∷ []) ≡ labels t
+one-type t = append-nil (labels t)
+
+-- the last types give way to the type that a label makes of them
+pub together : (c : TypeCon) (n : ℕ) (old parts new : List SchemeTree) (t : SchemeTree) → n ≤ length old → Fits c n → parts ≡ drop (length old - n) old → t ≡ built c parts
+    → new ≡ take (length old - n) old ++ t ∷ [] → all_labels new ≡ all_labels old ++ (c, n) ∷ []
+together c n old parts new t le fits ep et en =
+    let count : length parts ≡ n = (let a = ap length ep in let b = length-drop (length old - n) old in omega (arith, a, b)) in
+    ap all_labels en ∙ all-labels-append (take (length old - n) old) (t ∷ [])
+    ∙ ap (λ ls. all_labels (take (length old - n) old) ++ ls) (one-type t ∙ ap labels et ∙ labels-built c parts (subst (Fits c) (sym count) fits))
+    ∙ sym (append_assoc (all_labels (take (length old - n) old)) (all_labels parts) ((c, length parts) ∷ []))
+    ∙ ap (λ ls. ls ++ (c, length parts) ∷ []) (sym (all-labels-append (take (length old - n) old) parts) ∙ ap (λ us. all_labels (take (length old - n) old ++ us)) ep ∙ ap all_labels (take-append-drop (length old - n) old))
+    ∙ ap (λ m. all_labels old ++ (c, m) ∷ []) count

@@ -1,11 +1,13 @@
 pub mod Classes
 pub mod Finite
+pub mod General
 pub mod Instances
 pub mod Kept
 pub mod Labels
 pub mod Nodes
 pub mod Runs
 pub mod Schemes
+pub mod Spelled
 pub mod Trees
 pub mod Turns
 pub mod Waiting

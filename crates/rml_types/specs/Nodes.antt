@@ -1,5 +1,5 @@
 -- What contracts see of a type graph, and what solves it.
-use Rattle.std.specs.Prelude.{◌≡◌, ℕ, ◌≤◌, List, [], ◌∷◌, ◌++◌, length, get_or, Option, None, ◌↔◌}
+use Rattle.std.specs.Prelude.{◌≡◌, ℕ, ◌≤◌, List, [], ◌∷◌, ◌++◌, length, get_or, Option, Some, None, ◌↔◌}
 use Rattle.rml_types.specs.declared.form.Form.{Form}
 use Rattle.rml_types.specs.declared.form.TypeCon.{TypeCon}
 use Rattle.rml_types.specs.declared.form.TypeCon.TheVariants as con
@@ -47,3 +47,7 @@ Equates old new a b = (tree : ℕ → Tree) → Solves new tree ↔ (Solves old 
 -- no solution of the graph has one tree at a and b
 abbrev pub CannotEquate : Nodes → ℕ → ℕ → Type 0
 CannotEquate g a b = (tree : ℕ → Tree) → Solves g tree → Same (tree a) (tree b) → ⊥
+
+-- no type variable stands fixed in the graph
+abbrev pub HasNoFixed : Nodes → Type 0
+HasNoFixed g = (n : ℕ) (f : Form) (k : ℕ) → form_of g n ≡ Some f → f.con ≡ con.Fixed k → ⊥

@@ -7,7 +7,7 @@ use Rattle.rml_types.specs.declared.tree.SchemeTree.{SchemeTree}
 use Rattle.rml_types.specs.Finite.{HasTypes, built}
 use Rattle.rml_types.specs.Instances.{IsInstance}
 use Rattle.rml_types.specs.Labels.{Label}
-use Rattle.rml_types.specs.Nodes.{Fits, Nodes}
+use Rattle.rml_types.specs.Nodes.{Fits, HasNoFixed, Nodes}
 use Rattle.rml_types.specs.Schemes.{inst, unit}
 
 -- what a label makes of the types of its arguments, a variable being the type of its number in a list
@@ -34,10 +34,12 @@ abbrev pub Ready : ℕ → List Label → ℕ → Type 0
 Ready vars [] n = n ≡ 1
 Ready vars (l ∷ ls) n = (l.1 ≤ n) × Fits l.0 l.1 × InScope vars l.0 × Ready vars ls (n - l.1 + 1)
 
--- A graph grew: its nodes stay, and its finite types are those of the old graph, each extended.
+-- A graph grew: its nodes stay, its finite types are those of the old graph, each extended, and no variable came to stand
+-- fixed in it.
 pub record Grows (old new : Nodes) : Type 0 where
   pub failed : new.failed ≡ old.failed
   pub count : length old.forms ≤ length new.forms
+  pub unfixed : HasNoFixed old → HasNoFixed new
   pub restricts : (types : ℕ → SchemeTree) → HasTypes new types → HasTypes old types
   pub extends : (types : ℕ → SchemeTree) → HasTypes old types → (later : ℕ → SchemeTree) × HasTypes new later × ((n : ℕ) → n < length old.forms → later n ≡ types n)
 

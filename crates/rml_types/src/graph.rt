@@ -1,13 +1,14 @@
 //! Type nodes and equations between them. A node has a form or none, and nodes that equations made equal are one class.
 //! Which trees solve the equations is what the contracts speak of; no list of the equations is kept.
 
-ghost use Rattle.std.specs.Prelude.{◌≡◌, ◌<◌, [], length, Some, None, All, IfOk, OnOk, OnErr};
-ghost use Rattle.std.specs.Option.{ForSome};
+ghost use Rattle.std.specs.Prelude.{◌≡◌, ◌<◌, [], length, Some, None, All, IfOk, OnOk, OnErr, option_and_then};
+ghost use Rattle.std.specs.Option.{ForSome, option_copied};
 ghost use Rattle.rml_types.specs.Finite.{Adds};
 ghost use Rattle.rml_types.specs.Kept.{MayHave};
-ghost use Rattle.rml_types.specs.Nodes.{Fits, with_node};
+ghost use Rattle.rml_types.specs.Nodes.{Fits, form_in, with_node};
 
 mod acyclic;
+mod general;
 mod instance;
 mod unify;
 
@@ -112,5 +113,15 @@ impl Graph {
         self.shapes.push(shape).unwrap();
         self.marks.push(Mark::New).unwrap();
         Ok(node)
+    }
+}
+
+/// The form of a node, if there is the node.
+fn form_at(forms: &[Option<Form>], shape: Option<usize>) -> Option<&Form>
+    ensures { option_copied result ≡ option_and_then (form_in forms.now) shape }
+{
+    match shape {
+        Some(node) if node < forms.len() => forms[node].as_ref(),
+        _ => None,
     }
 }

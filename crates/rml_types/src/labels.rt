@@ -1,12 +1,16 @@
 //! Types in reverse Polish order. A type is walked and made by way of this list, so that deep types need no deep stack.
 
-ghost use Rattle.std.specs.Prelude.{◌≡◌, ◌++◌, ◌∷◌, [], IfOk, OnOk};
+ghost use Rattle.std.specs.Prelude.{◌≡◌, ℕ, ◌+◌, ◌-◌, ◌≤◌, ◌++◌, ◌∷◌, [], length, IfOk, OnOk};
+ghost use Rattle.rml_types.specs.Finite.{built};
 ghost use Rattle.rml_types.specs.Labels.{all_labels, labels, looked_at};
+ghost use Rattle.rml_types.specs.Nodes.{Fits};
+ghost use Rattle.rml_types.specs.Runs.{Ready};
 ghost use Rattle.rml_types.specs.declared.tree.SchemeTree.{SchemeTree};
 
 use crate::form::TypeCon;
 use crate::tree::SchemeTree;
 use rml_base::Memory;
+use sqlite_items::Items;
 use std::alloc::Global;
 
 /// A constructor and the number of its arguments, which stand before it.
@@ -25,6 +29,49 @@ pub fn labels_of(alloc: Global, tree: &SchemeTree) -> Result<Vec<Label>, Memory>
     }
     labels.reverse();
     Ok(labels)
+}
+
+/// The type of some labels.
+pub fn tree_of(alloc: Global, all: &[Label]) -> Result<SchemeTree, Memory>
+    requires { (vars : ℕ) × Ready vars all.now 0 }
+    ensures { IfOk result (λ t. labels t ≡ all.now) }
+{
+    let mut made = Vec::new(alloc);
+    for label in all {
+        put_together(*label, &mut made)?;
+    }
+    Ok(made.remove(0))
+}
+
+/// Makes the type of a label of the last types that were made.
+fn put_together(label: Label, made: &mut Vec<SchemeTree>) -> Result<(), Memory>
+    requires count { label.1 ≤ length made.old.items }
+    requires fits { Fits label.0 label.1 }
+    ensures count { OnOk result (length made.new.items ≡ length made.old.items - label.1 + 1) }
+    ensures labels { OnOk result (all_labels made.new.items ≡ all_labels made.old.items ++ label ∷ []) }
+{
+    let (con, count) = label;
+    let at = made.len() - count;
+    let parts = made.split_off(at)?;
+    let tree = tree_by(con, parts)?;
+    made.push(tree)?;
+    Ok(())
+}
+
+/// The type that a constructor makes of some types.
+fn tree_by(con: TypeCon, mut parts: Vec<SchemeTree>) -> Result<SchemeTree, Memory>
+    requires { Fits con (length parts.items) }
+    ensures { IfOk result (λ t. t ≡ built con parts.items) }
+{
+    match con {
+        TypeCon::Named(c) => Ok(SchemeTree::Named(c, Items::from_vec(parts))),
+        TypeCon::Fixed(k) => Ok(SchemeTree::Var(k)),
+        TypeCon::Tuple => Ok(SchemeTree::Tuple(Items::from_vec(parts))),
+        TypeCon::Rel(inputs) => {
+            let outputs = parts.split_off(inputs as usize)?;
+            Ok(SchemeTree::Rel(Items::from_vec(parts), Items::from_vec(outputs)))
+        }
+    }
 }
 
 /// The label of a type. Its parts wait.

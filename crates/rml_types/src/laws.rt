@@ -1,11 +1,13 @@
-//! What holds of substitutions and of the instances of schemes. These functions do nothing: their contracts are the laws.
+//! What holds of substitutions, of the instances of schemes, and of most general types. These functions do nothing: their contracts are the laws.
 
-ghost use Rattle.std.specs.Prelude.{◌≡◌, ◌<◌, ℕ, List, IsTrue, get_or, map};
+ghost use Rattle.std.specs.Prelude.{◌≡◌, ◌<◌, ◌≤◌, ℕ, List, IsTrue, get_or, map};
 ghost use Rattle.rml_types.specs.declared.scheme.Scheme.{Scheme};
 ghost use Rattle.rml_types.specs.declared.tree.SchemeTree.{SchemeTree};
 ghost use Rattle.rml_types.specs.declared.tree.SchemeTree.TheVariants as tree;
 ghost use Rattle.rml_types.specs.Schemes.{inst, unit, vars_below};
-ghost use Rattle.rml_types.specs.Finite.{tree_of};
+ghost use Rattle.rml_types.specs.Finite.{nodes, tree_of};
+ghost use Rattle.rml_types.specs.General.{HasType, IsGeneral};
+ghost use Rattle.rml_types.specs.Nodes.{Nodes};
 ghost use Rattle.rml_types.specs.Trees.{Same};
 ghost use Rattle.rml_types.specs.Instances.{IsInstance};
 
@@ -31,4 +33,9 @@ pub fn instances()
 pub fn finite_types()
     // types with one tree are one type
     ensures trees { (s t : SchemeTree) → Same (tree_of s) (tree_of t) → s ≡ t }
+{}
+
+/// The most general type of a node is the narrowest of its types.
+pub fn general_types()
+    ensures narrowest { (g : Nodes) (node : ℕ) (s : Scheme) (t : SchemeTree) → IsGeneral g node s → HasType g node t → nodes s.body ≤ nodes t }
 {}

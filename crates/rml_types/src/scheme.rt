@@ -4,12 +4,12 @@
 ghost use Rattle.std.specs.Prelude.{◌≡◌, ◌<◌, ◌&&◌, ◌↔◌, IsTrue, IsSome, IfOk, IfSome, map};
 ghost use Rattle.rml_types.specs.Schemes.{every, vars_below};
 
-use crate::tree::{SchemeTree, copy_tree};
+use crate::tree::{SchemeTree, copy_tree, forget};
 use rml_base::Memory;
 use std::alloc::Global;
 
 /// A type with its first `vars` variables, from 0 on, free for each use.
-#[derive(Debug, Drop)]
+#[derive(Debug)]
 pub struct Scheme {
     pub vars: u32,
     pub body: SchemeTree,
@@ -37,6 +37,13 @@ impl Scheme {
             vars: self.vars,
             body: copy_tree(alloc, &self.body)?,
         })
+    }
+}
+
+impl Drop for Scheme {
+    fn drop(self) {
+        let Scheme { vars: _, body } = self;
+        forget(body);
     }
 }
 

@@ -12,8 +12,7 @@ ghost use Rattle.rml_types.specs.declared.graph.Mark.TheVariants as mark;
 
 use crate::classes::Classes;
 use crate::form::Form;
-use crate::graph::unify::form_at;
-use crate::graph::{Graph, Mark};
+use crate::graph::{Graph, Mark, form_at};
 
 impl Graph {
     /// Whether the equations have a solution in finite types. It takes no memory.

@@ -14,7 +14,7 @@ ghost use Rattle.rml_types.specs.Waiting.{CanMeet, argument_pairs, met_pairs};
 
 use crate::classes::Classes;
 use crate::form::{Form, UnifyErr};
-use crate::graph::Graph;
+use crate::graph::{Graph, form_at};
 use std::alloc::Global;
 
 type Pair = (usize, usize);
@@ -131,16 +131,6 @@ fn unite(
     shapes[kept] = shapes[kept].or(shapes[lost]);
     classes.join(kept, lost);
     Ok(())
-}
-
-/// The form of a node, if there is the node.
-pub(crate) fn form_at(forms: &[Option<Form>], shape: Option<usize>) -> Option<&Form>
-    ensures { option_copied result ≡ option_and_then (form_in forms.now) shape }
-{
-    match shape {
-        Some(node) if node < forms.len() => forms[node].as_ref(),
-        _ => None,
-    }
 }
 
 /// Lets the pairs of the arguments of two forms wait, where the forms can be one.
