@@ -1,15 +1,15 @@
 -- Tables that fit, fact by fact.
-use Rattle.std.proofs.Common.{◌≡◌, Bool, true, false, IsTrue, refl, length, map}
+use Rattle.std.proofs.Common.{Bool, true, false, IsTrue, refl, length, map}
 use Rattle.std.specs.Prelude.{◌&&◌, slice_get}
 use Rattle.std.specs.List.{list_all}
 use Rattle.rml_resolved.specs.declared.checked.Parts.{Parts}
 use Rattle.rml_resolved.specs.Beginning.{types_begin, cons_begin, relations_begin}
-use Rattle.rml_resolved.specs.Binding.{relation_binds}
+use Rattle.rml_resolved.specs.Binding.{relation_binds_once, relation_uses_bound}
 use Rattle.rml_resolved.specs.Circles.{has_no_circle, type_needs, val_needs}
 use Rattle.rml_resolved.specs.Fits.{counts_of, relation_fits, val_fits}
-use Rattle.rml_resolved.specs.Size.{relation_is_small, is_light}
+use Rattle.rml_resolved.specs.Size.{relation_is_small, has_long_rule, is_light}
 use Rattle.rml_resolved.specs.Typing.{type_def_fits, con_def_fits, is_main}
-use Rattle.rml_resolved.specs.Whole.{parts_begin, parts_fit, parts_end, rules_hold, is_program}
+use Rattle.rml_resolved.specs.Whole.{parts_begin, parts_fit, parts_end, variables_hold, sizes_hold, rules_hold, is_program}
 
 -- both tests of two hold
 record Both (a b : Bool) : Type 0 where
@@ -30,8 +30,10 @@ pub record Facts (p : Parts) : Type 0 where
   pub relations_fit : IsTrue (list_all (relation_fits (counts_of p.names p.vals p.rels) p.types p.cons) p.rels)
   pub types_end : IsTrue (has_no_circle (map type_needs p.types))
   pub vals_end : IsTrue (has_no_circle (map val_needs p.vals))
-  pub variables_bound : IsTrue (list_all relation_binds p.rels)
+  pub bound_once : IsTrue (list_all relation_binds_once p.rels)
+  pub used_after : IsTrue (list_all relation_uses_bound p.rels)
   pub rules_small : IsTrue (list_all relation_is_small p.rels)
+  pub long_rule : IsTrue (has_long_rule p.rels)
   pub light : IsTrue (is_light p.vals p.rels)
   pub main_fits : IsTrue (is_main p.gives (slice_get p.rels p.main))
 
@@ -50,11 +52,13 @@ facts p h =
     let fit_more = both (types && cons) vals fit.first in
     let fit_most = both types cons fit_more.first in
     let ends = both (has_no_circle (map type_needs p.types)) (has_no_circle (map val_needs p.vals)) three.second in
-    let bound = list_all relation_binds p.rels in
+    let main = is_main p.gives (slice_get p.rels p.main) in
+    let holds = both (variables_hold p && sizes_hold p) main all.second in
+    let hold = both (variables_hold p) (sizes_hold p) holds.first in
+    let variables = both (list_all relation_binds_once p.rels) (list_all relation_uses_bound p.rels) hold.first in
     let small = list_all relation_is_small p.rels in
-    let holds = both (bound && small && is_light p.vals p.rels) (is_main p.gives (slice_get p.rels p.main)) all.second in
-    let hold = both (bound && small) (is_light p.vals p.rels) holds.first in
-    let rules = both bound small hold.first in
+    let sizes = both (small && has_long_rule p.rels) (is_light p.vals p.rels) hold.second in
+    let rules = both small (has_long_rule p.rels) sizes.first in
     record {
       types_first = begin.first;
       cons_first = begin.second;
@@ -65,8 +69,10 @@ facts p h =
       relations_fit = fit.second;
       types_end = ends.first;
       vals_end = ends.second;
-      variables_bound = rules.first;
-      rules_small = rules.second;
-      light = hold.second;
+      bound_once = variables.first;
+      used_after = variables.second;
+      rules_small = rules.first;
+      long_rule = rules.second;
+      light = sizes.second;
       main_fits = holds.second;
     }

@@ -1,9 +1,8 @@
--- Where each variable of a rule is bound and where it is used. It is bound at one place alone and used only after it: the
--- head binds first, then the premises go in order, in a premise the expressions before the patterns, and then the results.
--- A variable that is bound inside a `not` is used only up to the end of that `not`.
-use Rattle.std.specs.Prelude.{ℕ, Bool, ◌==◌, if◌then◌else◌, List, [], ◌∷◌, ◌++◌, map, Option, Some, None, is_some, option_map, option_and_then}
+-- Where each variable of a rule is bound and where it is used. Each is bound, at one place alone, and used only after it: the
+-- head binds first, then the premises go in order, in a premise the callee and the expressions before the patterns, and then
+-- the results. A variable that is bound inside a `not` is used only up to the end of that `not`.
+use Rattle.std.specs.Prelude.{ℕ, Bool, true, false, ◌&&◌, ◌==◌, not, if◌then◌else◌, List, [], ◌∷◌, ◌++◌, map, length, Option, Some, None, option_map, option_and_then}
 use Rattle.std.specs.List.{list_all, list_any, concat}
-use Rattle.rml_resolved.specs.declared.binding.Bound.{Bound}
 use Rattle.rml_resolved.specs.declared.tables.RelDef.{RelDef}
 use Rattle.rml_resolved.specs.declared.tables.RRule.{RRule}
 use Rattle.rml_resolved.specs.declared.trees.RPat.{RPat, fold-RPat}
@@ -15,6 +14,11 @@ use Rattle.rml_resolved.specs.declared.trees.Callee.TheVariants as callee
 use Rattle.rml_resolved.specs.declared.trees.RGoal.{RGoal, fold-RGoal}
 use Rattle.rml_resolved.specs.declared.trees.RGoal.TheOpen.{RGoal-F}
 
+abbrev pub contains : ℕ → List ℕ → Bool
+contains x xs = list_any (λ y. x == y) xs
+
+-- ---- bound at one place alone
+
 abbrev pub binds_at : RPat-F (List ℕ) → List ℕ
 binds_at (RPat-F.Var x) = x ∷ []
 binds_at (RPat-F.Con c ps) = concat ps
@@ -24,9 +28,41 @@ binds_at (RPat-F.Cons ps) = concat ps
 binds_at (RPat-F.Bind x p) = x ∷ p
 binds_at _ = []
 
--- the variables that a pattern binds, from left to right
+-- the variables that a pattern binds, from left to right, once for each place
 abbrev pub binds : RPat → List ℕ
 binds = fold-RPat (List ℕ) binds_at
+
+abbrev pub all_bind : List RPat → List ℕ
+all_bind ps = concat (map binds ps)
+
+abbrev pub goal_binds_at : RGoal-F (List ℕ) → List ℕ
+goal_binds_at (RGoal-F.Call f es ps) = all_bind ps
+goal_binds_at (RGoal-F.Equal a b) = []
+goal_binds_at (RGoal-F.Let p e) = binds p
+goal_binds_at (RGoal-F.Not g) = g
+goal_binds_at (RGoal-F.All gs) = concat gs
+
+-- the variables that a goal binds, those inside a `not` among them
+abbrev pub goal_binds : RGoal → List ℕ
+goal_binds = fold-RGoal (List ℕ) goal_binds_at
+
+-- the variables that the head and the premises bind
+abbrev pub rule_binds : RRule → List ℕ
+rule_binds r = all_bind r.inputs ++ concat (map goal_binds r.goals)
+
+-- no number stands twice
+abbrev pub is_distinct : List ℕ → Bool
+is_distinct [] = true
+is_distinct (x ∷ xs) = not (contains x xs) && is_distinct xs
+
+-- none is bound at two places, and as many are bound as the rule has; since each is below `vars`, each is bound
+abbrev pub binds_once : RRule → Bool
+binds_once r = is_distinct (rule_binds r) && (length (rule_binds r) == r.vars)
+
+abbrev pub relation_binds_once : RelDef → Bool
+relation_binds_once r = list_all binds_once r.rules
+
+-- ---- used only after it
 
 abbrev pub uses_at : RExp-F (List ℕ) → List ℕ
 uses_at (RExp-F.Var x) = x ∷ []
@@ -40,58 +76,51 @@ uses_at _ = []
 abbrev pub uses : RExp → List ℕ
 uses = fold-RExp (List ℕ) uses_at
 
+abbrev pub all_use : List RExp → List ℕ
+all_use es = concat (map uses es)
+
 abbrev pub callee_uses : Callee → List ℕ
 callee_uses (callee.Var x) = x ∷ []
 callee_uses _ = []
 
-abbrev pub none_bound : Bound
-none_bound = record { ever = []; now = [] }
+-- each of these can be used where those are bound
+abbrev pub can_use : List ℕ → List ℕ → Bool
+can_use xs bound = list_all (λ x. contains x bound) xs
 
-abbrev pub contains : ℕ → List ℕ → Bool
-contains x xs = list_any (λ y. x == y) xs
-
--- what is bound after a part, or None where the part is at fault
+-- from what is bound before a part to what is bound after it, or None where the part uses what is not
 abbrev pub Part : Type 0
-Part = Bound → Option Bound
+Part = List ℕ → Option (List ℕ)
 
-abbrev pub bind_one : ℕ → Part
-bind_one x b = if contains x b.ever then None else Some (record { ever = b.ever ++ x ∷ []; now = b.now ++ x ∷ [] })
-
--- each variable is new, and then bound
-abbrev pub bind_all : List ℕ → Part
-bind_all [] b = Some b
-bind_all (x ∷ xs) b = option_and_then (bind_all xs) (bind_one x b)
-
--- each variable can be used now
-abbrev pub use_all : List ℕ → Part
-use_all xs b = if list_all (λ x. contains x b.now) xs then Some b else None
+abbrev pub use_then_bind : List ℕ → List ℕ → Part
+use_then_bind xs ys bound = if can_use xs bound then Some (bound ++ ys) else None
 
 abbrev pub in_turn : List Part → Part
-in_turn [] b = Some b
-in_turn (p ∷ ps) b = option_and_then (in_turn ps) (p b)
-
-abbrev pub patterns_bind : List RPat → Part
-patterns_bind ps = bind_all (concat (map binds ps))
+in_turn [] bound = Some bound
+in_turn (p ∷ ps) bound = option_and_then (in_turn ps) (p bound)
 
 abbrev pub goal_at : RGoal-F Part → Part
-goal_at (RGoal-F.Call f es ps) b = option_and_then (patterns_bind ps) (use_all (callee_uses f ++ concat (map uses es)) b)
-goal_at (RGoal-F.Equal x y) b = use_all (uses x ++ uses y) b
-goal_at (RGoal-F.Let p e) b = option_and_then (bind_all (binds p)) (use_all (uses e) b)
-goal_at (RGoal-F.Not g) b = option_map (λ after. record { ever = after.ever; now = b.now }) (g b)
-goal_at (RGoal-F.All gs) b = in_turn gs b
+goal_at (RGoal-F.Call f es ps) = use_then_bind (callee_uses f ++ all_use es) (all_bind ps)
+goal_at (RGoal-F.Equal a b) = use_then_bind (uses a ++ uses b) []
+goal_at (RGoal-F.Let p e) = use_then_bind (uses e) (binds p)
+goal_at (RGoal-F.Not g) = λ bound. option_map (λ inside. bound) (g bound)
+goal_at (RGoal-F.All gs) = in_turn gs
 
-abbrev pub goal_binds : RGoal → Part
-goal_binds = fold-RGoal Part goal_at
+abbrev pub after_goal : RGoal → Part
+after_goal = fold-RGoal Part goal_at
 
-abbrev pub goals_bind : List RGoal → Part
-goals_bind gs = in_turn (map goal_binds gs)
+abbrev pub after_goals : List RGoal → Part
+after_goals gs = in_turn (map after_goal gs)
 
--- what is bound after the head and the premises
-abbrev pub before_results : RRule → Option Bound
-before_results r = option_and_then (goals_bind r.goals) (patterns_bind r.inputs none_bound)
+-- what is bound before the results
+abbrev pub before_results : RRule → Option (List ℕ)
+before_results r = after_goals r.goals (all_bind r.inputs)
 
-abbrev pub rule_binds : RRule → Bool
-rule_binds r = is_some (option_and_then (use_all (concat (map uses r.results))) (before_results r))
+abbrev pub has_all : List ℕ → Option (List ℕ) → Bool
+has_all xs None = false
+has_all xs (Some bound) = can_use xs bound
 
-abbrev pub relation_binds : RelDef → Bool
-relation_binds r = list_all rule_binds r.rules
+abbrev pub uses_bound : RRule → Bool
+uses_bound r = has_all (all_use r.results) (before_results r)
+
+abbrev pub relation_uses_bound : RelDef → Bool
+relation_uses_bound r = list_all uses_bound r.rules

@@ -1,8 +1,7 @@
 -- Circles in a graph, which has for each number the list of the numbers that it needs.
-use Rattle.std.specs.Prelude.{ℕ, zero, suc, Bool, false, List, [], ◌∷◌, ◌++◌, map, length, Option, slice_get, unwrap_or}
-use Rattle.std.specs.List.{list_all, concat}
+use Rattle.std.specs.Prelude.{ℕ, zero, suc, Bool, false, List, [], ◌∷◌, ◌++◌, ◌<◌, map, length, slice_get, unwrap_or}
+use Rattle.std.specs.List.{list_all, concat, Contains}
 use Rattle.rml_types.specs.Schemes.{every}
-use Rattle.rml_types.specs.declared.scheme.Scheme.{Scheme}
 use Rattle.rml_types.specs.declared.tree.SchemeTree.{SchemeTree, fold-SchemeTree}
 use Rattle.rml_types.specs.declared.tree.SchemeTree.TheOpen.{SchemeTree-F}
 use Rattle.std.specs.Option.{option_map_or}
@@ -22,9 +21,28 @@ abbrev pub rounds : Graph → ℕ → List Bool
 rounds graph zero = map (λ needs. false) graph
 rounds graph (suc n) = map (are_finished (rounds graph n)) graph
 
--- all are finished after as many rounds as there are numbers, which is so exactly where none needs itself
+-- all are finished after as many rounds as there are numbers
 abbrev pub has_no_circle : Graph → Bool
 has_no_circle graph = every (rounds graph (length graph))
+
+-- ---- the same in words of the graph, which the laws tie to it
+
+-- the first number needs the second
+abbrev pub Needs : Graph → ℕ → ℕ → Type 0
+Needs graph k j = Contains (unwrap_or (slice_get graph k) []) j
+
+-- the first number needs the second, or needs one that reaches it
+pub data Reaches (graph : Graph) : ℕ → ℕ → Type 0 where
+  at_once : {k j : ℕ} → Needs graph k j → Reaches graph k j
+  by_way : {k i j : ℕ} → Needs graph k i → Reaches graph i j → Reaches graph k j
+
+-- each number that is needed is one of the graph
+abbrev pub IsClosed : Graph → Type 0
+IsClosed graph = (k j : ℕ) → Needs graph k j → j < length graph
+
+-- no number reaches itself
+abbrev pub IsAcyclic : Graph → Type 0
+IsAcyclic graph = (k : ℕ) → Reaches graph k k → ⊥
 
 -- ---- types, which need the types that their definition names
 

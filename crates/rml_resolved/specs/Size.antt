@@ -1,6 +1,6 @@
 -- How large rules, vals and programs are.
-use Rattle.std.specs.Prelude.{ℕ, Bool, ◌||◌, ◌&&◌, ◌+◌, ◌^◌, nat_lt, nat_le, List, sum, sum_by}
-use Rattle.std.specs.List.{list_all}
+use Rattle.std.specs.Prelude.{ℕ, Bool, ◌||◌, ◌&&◌, ◌+◌, ◌^◌, nat_lt, nat_le, List, map, fold, max, sum, sum_by}
+use Rattle.std.specs.List.{list_all, concat}
 use Rattle.rml_resolved.specs.declared.tables.ValDef.{ValDef}
 use Rattle.rml_resolved.specs.declared.tables.RelDef.{RelDef}
 use Rattle.rml_resolved.specs.declared.tables.RRule.{RRule}
@@ -57,6 +57,17 @@ relation_is_small r = list_all rule_is_small r.rules
 
 abbrev pub relation_tokens : RelDef → ℕ
 relation_tokens r = sum_by (λ rule. rule.tokens) r.rules
+
+abbrev pub tokens_of : RelDef → List ℕ
+tokens_of r = map (λ rule. rule.tokens) r.rules
+
+-- the tokens of the longest rule: the greatest of the tokens of all rules
+unfoldable pub longest : List RelDef → ℕ
+longest rels = fold max 0 (concat (map tokens_of rels))
+
+-- some rule is as long as the longest of the prelude's, which has 40 tokens
+abbrev pub has_long_rule : List RelDef → Bool
+has_long_rule rels = nat_le 40 (longest rels)
 
 abbrev pub val_size : ValDef → ℕ
 val_size v = exp_size v.value

@@ -1,6 +1,6 @@
 -- The types that a program's tables name: type names have as many arguments as they are declared with, and the scheme of a
 -- constructor is the type from its arguments to its datatype, over the datatype's parameters.
-use Rattle.std.specs.Prelude.{ℕ, Bool, true, false, ◌&&◌, ◌==◌, ◌+◌, nat_lt, if◌then◌else◌, List, [], ◌∷◌, map, length, Option, Some, None, slice_get}
+use Rattle.std.specs.Prelude.{ℕ, Bool, true, false, ◌&&◌, ◌==◌, ◌+◌, ◌^◌, nat_lt, List, [], ◌∷◌, length, Option, Some, None, slice_get, is_none}
 use Rattle.rml_types.specs.Schemes.{every}
 use Rattle.rml_types.specs.declared.scheme.Scheme.{Scheme}
 use Rattle.rml_types.specs.declared.tree.SchemeTree.{SchemeTree, out-SchemeTree, fold-SchemeTree}
@@ -40,6 +40,14 @@ type_def_fits names types d = nat_lt d.«module» names && nat_lt d.name names &
 
 -- ---- constructors
 
+abbrev pub stands_for_none : Option TypeDef → Bool
+stands_for_none None = false
+stands_for_none (Some d) = is_none d.means
+
+-- a type that is there and stands for no other
+abbrev pub is_datatype : List TypeDef → ℕ → Bool
+is_datatype types c = stands_for_none (slice_get types c)
+
 abbrev pub is_var : ℕ → SchemeTree-F SchemeTree → Bool
 is_var k (SchemeTree-F.Var j) = k == j
 is_var k _ = false
@@ -63,11 +71,13 @@ abbrev pub makes_whole : ℕ → ℕ → ℕ → SchemeTree-F SchemeTree → Boo
 makes_whole c vars arity (SchemeTree-F.Rel ins outs) = (arity == length ins) && gives_whole c vars outs
 makes_whole c vars arity _ = false
 
+-- a constructor has a name, a datatype, fewer than 2 ^ 20 arguments and the type that makes it one
 abbrev pub con_def_fits : ℕ → List TypeDef → ConDef → Bool
 con_def_fits names types d =
-    nat_lt d.name names && type_fits types d.scheme.body && makes_whole d.of d.scheme.vars d.arity (out-SchemeTree d.scheme.body)
+    nat_lt d.name names && is_datatype types d.of && nat_lt d.arity (2 ^ 20) && type_fits types d.scheme.body
+    && makes_whole d.of d.scheme.vars d.arity (out-SchemeTree d.scheme.body)
 
--- ---- the relation `main`: from a list of texts to nothing, or to an integer
+-- ---- the relation `main`: from a list of texts to nothing, or to an integer; its type has no variables
 
 abbrev pub is_constant : ℕ → SchemeTree-F SchemeTree → Bool
 is_constant c (SchemeTree-F.Named d []) = c == d
@@ -92,7 +102,7 @@ is_main_type gives _ = false
 
 abbrev pub is_main_scheme : Bool → Option Scheme → Bool
 is_main_scheme gives None = false
-is_main_scheme gives (Some s) = is_main_type gives (out-SchemeTree s.body)
+is_main_scheme gives (Some s) = (s.vars == 0) && is_main_type gives (out-SchemeTree s.body)
 
 abbrev pub is_main : Bool → Option RelDef → Bool
 is_main gives None = false

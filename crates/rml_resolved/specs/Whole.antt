@@ -1,16 +1,12 @@
 -- Tables that make a program: every fact that a program keeps.
-use Rattle.std.specs.Prelude.{Bool, ◌&&◌, List, ℕ, length, map, slice_get}
+use Rattle.std.specs.Prelude.{Bool, ◌&&◌, length, map, slice_get}
 use Rattle.std.specs.List.{list_all}
-use Rattle.rml_resolved.specs.declared.tables.TypeDef.{TypeDef}
-use Rattle.rml_resolved.specs.declared.tables.ConDef.{ConDef}
-use Rattle.rml_resolved.specs.declared.tables.ValDef.{ValDef}
-use Rattle.rml_resolved.specs.declared.tables.RelDef.{RelDef}
 use Rattle.rml_resolved.specs.declared.checked.Parts.{Parts}
 use Rattle.rml_resolved.specs.Beginning.{types_begin, cons_begin, relations_begin}
-use Rattle.rml_resolved.specs.Binding.{relation_binds}
+use Rattle.rml_resolved.specs.Binding.{relation_binds_once, relation_uses_bound}
 use Rattle.rml_resolved.specs.Circles.{has_no_circle, type_needs, val_needs}
 use Rattle.rml_resolved.specs.Fits.{counts_of, relation_fits, val_fits}
-use Rattle.rml_resolved.specs.Size.{relation_is_small, is_light}
+use Rattle.rml_resolved.specs.Size.{relation_is_small, has_long_rule, is_light}
 use Rattle.rml_resolved.specs.Typing.{type_def_fits, con_def_fits, is_main}
 
 abbrev pub parts_begin : Parts → Bool
@@ -25,8 +21,14 @@ parts_fit p =
 abbrev pub parts_end : Parts → Bool
 parts_end p = has_no_circle (map type_needs p.types) && has_no_circle (map val_needs p.vals)
 
+abbrev pub variables_hold : Parts → Bool
+variables_hold p = list_all relation_binds_once p.rels && list_all relation_uses_bound p.rels
+
+abbrev pub sizes_hold : Parts → Bool
+sizes_hold p = list_all relation_is_small p.rels && has_long_rule p.rels && is_light p.vals p.rels
+
 abbrev pub rules_hold : Parts → Bool
-rules_hold p = list_all relation_binds p.rels && list_all relation_is_small p.rels && is_light p.vals p.rels && is_main p.gives (slice_get p.rels p.main)
+rules_hold p = variables_hold p && sizes_hold p && is_main p.gives (slice_get p.rels p.main)
 
 abbrev pub is_program : Parts → Bool
 is_program p = parts_begin p && parts_fit p && parts_end p && rules_hold p

@@ -1,8 +1,8 @@
 //! Where the variables of rules are bound and used.
 
-ghost use Rattle.std.specs.Prelude.{◌≡◌, ◌++◌, IfOk, map, option_and_then};
+ghost use Rattle.std.specs.Prelude.{◌≡◌, ◌++◌, IfOk, [], map};
 ghost use Rattle.std.specs.List.{list_all, concat};
-ghost use Rattle.rml_resolved.specs.Binding.{binds, uses, callee_uses, contains as contains_of, bind_one as bind_one_of, bind_all as bind_all_of, use_all as use_all_of, patterns_bind, goal_binds, goals_bind, before_results, rule_binds, relation_binds};
+ghost use Rattle.rml_resolved.specs.Binding.{contains as contains_of, binds, all_bind, goal_binds, rule_binds, is_distinct, binds_once, relation_binds_once, uses, all_use, callee_uses, can_use as can_use_of, use_then_bind, after_goal as after_goal_of, after_goals as after_goals_of, before_results, uses_bound, relation_uses_bound};
 
 use crate::tables::{RRule, RelDef};
 use crate::trees::{Callee, RExp, RGoal, RPat};
@@ -10,11 +10,10 @@ use rml_base::Memory;
 use sqlite_items::Items;
 use std::alloc::Global;
 
-/// The variables that were bound so far, and those of them that can be used now.
-#[derive(Drop)]
-pub struct Bound {
-    pub ever: Items<u32>,
-    pub now: Items<u32>,
+fn contains(x: u32, xs: &[u32]) -> bool
+    ensures { result ≡ contains_of x xs.now }
+{
+    xs.iter().any(|y| x == *y)
 }
 
 /// The variables of `all`, and then those that a pattern binds, from left to right.
@@ -43,13 +42,86 @@ fn with_bound(pattern: &RPat, all: Items<u32>) -> Result<Items<u32>, Memory>
 
 #[cycle(patterns)]
 fn with_all_bound(patterns: &[RPat], all: Items<u32>) -> Result<Items<u32>, Memory>
-    ensures { IfOk result (λ r. r ≡ all ++ concat (map binds patterns.now)) }
+    ensures { IfOk result (λ r. r ≡ all ++ all_bind patterns.now) }
 {
     let mut all = all;
     for pattern in patterns {
         all = with_bound(pattern, all)?;
     }
     Ok(all)
+}
+
+/// The variables of `all`, and then those that a goal binds.
+#[cycle(bindings)]
+fn with_goal_bound(goal: &RGoal, all: Items<u32>) -> Result<Items<u32>, Memory>
+    ensures { IfOk result (λ r. r ≡ all ++ goal_binds goal.now) }
+{
+    match goal {
+        RGoal::Call(_, _, ps) => with_all_bound(ps.as_slice(), all),
+        RGoal::Equal(_, _) => Ok(all),
+        RGoal::Let(p, _) => with_bound(p, all),
+        RGoal::Not(inner) => with_goal_bound(inner.get(), all),
+        RGoal::All(goals) => with_goals_bound(goals.as_slice(), all),
+    }
+}
+
+#[cycle(bindings)]
+fn with_goals_bound(goals: &[RGoal], all: Items<u32>) -> Result<Items<u32>, Memory>
+    ensures { IfOk result (λ r. r ≡ all ++ concat (map goal_binds goals.now)) }
+{
+    let mut all = all;
+    for goal in goals {
+        all = with_goal_bound(goal, all)?;
+    }
+    Ok(all)
+}
+
+fn variables_of(alloc: Global, rule: &RRule) -> Result<Items<u32>, Memory>
+    ensures { IfOk result (λ r. r ≡ rule_binds rule.now) }
+{
+    let in_head = with_all_bound(rule.inputs.as_slice(), Items::new(alloc))?;
+    with_goals_bound(rule.goals.as_slice(), in_head)
+}
+
+fn are_distinct(xs: &[u32]) -> bool
+    ensures { result ≡ is_distinct xs.now }
+{
+    for (i, x) in xs.iter().enumerate() {
+        if contains(*x, &xs[i + 1..]) {
+            return false;
+        }
+    }
+    true
+}
+
+fn is_each_bound_once(alloc: Global, rule: &RRule) -> Result<bool, Memory>
+    ensures { IfOk result (λ b. b ≡ binds_once rule.now) }
+{
+    let variables = variables_of(alloc, rule)?;
+    Ok(are_distinct(variables.as_slice()) && variables.len() == rule.vars as usize)
+}
+
+fn is_relation_bound_once(alloc: Global, rel: &RelDef) -> Result<bool, Memory>
+    ensures { IfOk result (λ b. b ≡ relation_binds_once rel.now) }
+{
+    for rule in rel.rules.as_slice() {
+        if !is_each_bound_once(alloc, rule)? {
+            return Ok(false);
+        }
+    }
+    Ok(true)
+}
+
+/// Whether each variable of each rule is bound, at one place alone.
+pub fn are_bound_once(alloc: Global, rels: &[RelDef]) -> Result<bool, Memory>
+    ensures { IfOk result (λ b. b ≡ list_all relation_binds_once rels.now) }
+{
+    for rel in rels {
+        if !is_relation_bound_once(alloc, rel)? {
+            return Ok(false);
+        }
+    }
+    Ok(true)
 }
 
 /// The variables of `all`, and then those that an expression uses, from left to right.
@@ -75,74 +147,13 @@ fn with_used(exp: &RExp, all: Items<u32>) -> Result<Items<u32>, Memory>
 
 #[cycle(expressions)]
 fn with_all_used(exps: &[RExp], all: Items<u32>) -> Result<Items<u32>, Memory>
-    ensures { IfOk result (λ r. r ≡ all ++ concat (map uses exps.now)) }
+    ensures { IfOk result (λ r. r ≡ all ++ all_use exps.now) }
 {
     let mut all = all;
     for exp in exps {
         all = with_used(exp, all)?;
     }
     Ok(all)
-}
-
-fn contains(x: u32, xs: &[u32]) -> bool
-    ensures { result ≡ contains_of x xs.now }
-{
-    xs.iter().any(|y| x == *y)
-}
-
-fn bind_one(x: u32, bound: Bound) -> Result<Option<Bound>, Memory>
-    ensures { IfOk result (λ b. b ≡ bind_one_of x bound) }
-{
-    let Bound { mut ever, mut now } = bound;
-    if contains(x, ever.as_slice()) {
-        return Ok(None);
-    }
-    ever.push(x)?;
-    now.push(x)?;
-    Ok(Some(Bound { ever, now }))
-}
-
-fn bind_all(xs: &[u32], bound: Bound) -> Result<Option<Bound>, Memory>
-    ensures { IfOk result (λ b. b ≡ bind_all_of xs.now bound) }
-{
-    let mut bound = bound;
-    for x in xs {
-        match bind_one(*x, bound)? {
-            Some(next) => bound = next,
-            None => return Ok(None),
-        }
-    }
-    Ok(Some(bound))
-}
-
-fn are_bound(xs: &[u32], now: &[u32]) -> bool
-    ensures { result ≡ list_all (λ x. contains_of x now.now) xs.now }
-{
-    xs.iter().all(|x| contains(*x, now))
-}
-
-fn use_all(xs: &[u32], bound: Bound) -> Option<Bound>
-    ensures { result ≡ use_all_of xs.now bound }
-{
-    if are_bound(xs, bound.now.as_slice()) {
-        Some(bound)
-    } else {
-        None
-    }
-}
-
-fn bind_patterns(alloc: Global, patterns: &[RPat], bound: Bound) -> Result<Option<Bound>, Memory>
-    ensures { IfOk result (λ b. b ≡ patterns_bind patterns.now bound) }
-{
-    let variables = with_all_bound(patterns, Items::new(alloc))?;
-    bind_all(variables.as_slice(), bound)
-}
-
-fn use_expressions(alloc: Global, exps: &[RExp], bound: Bound) -> Result<Option<Bound>, Memory>
-    ensures { IfOk result (λ b. b ≡ use_all_of (concat (map uses exps.now)) bound) }
-{
-    let variables = with_all_used(exps, Items::new(alloc))?;
-    Ok(use_all(variables.as_slice(), bound))
 }
 
 fn callee_variables(alloc: Global, callee: Callee) -> Result<Items<u32>, Memory>
@@ -158,73 +169,94 @@ fn callee_variables(alloc: Global, callee: Callee) -> Result<Items<u32>, Memory>
     }
 }
 
-fn bind_call(
+fn can_use(xs: &[u32], bound: &[u32]) -> bool
+    ensures { result ≡ can_use_of xs.now bound.now }
+{
+    xs.iter().all(|x| contains(*x, bound))
+}
+
+fn after_call(
     alloc: Global,
     callee: Callee,
     exps: &[RExp],
     patterns: &[RPat],
-    bound: Bound,
-) -> Result<Option<Bound>, Memory>
-    ensures { IfOk result (λ b. b ≡ option_and_then (patterns_bind patterns.now) (use_all_of (callee_uses callee ++ concat (map uses exps.now)) bound)) }
+    bound: Items<u32>,
+) -> Result<Option<Items<u32>>, Memory>
+    ensures { IfOk result (λ b. b ≡ use_then_bind (callee_uses callee ++ all_use exps.now) (all_bind patterns.now) bound) }
 {
-    let variables = with_all_used(exps, callee_variables(alloc, callee)?)?;
-    match use_all(variables.as_slice(), bound) {
-        Some(bound) => bind_patterns(alloc, patterns, bound),
-        None => Ok(None),
+    let used = with_all_used(exps, callee_variables(alloc, callee)?)?;
+    if can_use(used.as_slice(), bound.as_slice()) {
+        Ok(Some(with_all_bound(patterns, bound)?))
+    } else {
+        Ok(None)
     }
 }
 
-fn bind_equal(alloc: Global, a: &RExp, b: &RExp, bound: Bound) -> Result<Option<Bound>, Memory>
-    ensures { IfOk result (λ r. r ≡ use_all_of (uses a.now ++ uses b.now) bound) }
+fn after_equal(
+    alloc: Global,
+    a: &RExp,
+    b: &RExp,
+    bound: Items<u32>,
+) -> Result<Option<Items<u32>>, Memory>
+    ensures { IfOk result (λ r. r ≡ use_then_bind (uses a.now ++ uses b.now) [] bound) }
 {
-    let variables = with_used(b, with_used(a, Items::new(alloc))?)?;
-    Ok(use_all(variables.as_slice(), bound))
+    let used = with_used(b, with_used(a, Items::new(alloc))?)?;
+    if can_use(used.as_slice(), bound.as_slice()) {
+        Ok(Some(bound))
+    } else {
+        Ok(None)
+    }
 }
 
-fn bind_let(alloc: Global, p: &RPat, e: &RExp, bound: Bound) -> Result<Option<Bound>, Memory>
-    ensures { IfOk result (λ r. r ≡ option_and_then (bind_all_of (binds p.now)) (use_all_of (uses e.now) bound)) }
+fn after_let(
+    alloc: Global,
+    p: &RPat,
+    e: &RExp,
+    bound: Items<u32>,
+) -> Result<Option<Items<u32>>, Memory>
+    ensures { IfOk result (λ r. r ≡ use_then_bind (uses e.now) (binds p.now) bound) }
 {
     let used = with_used(e, Items::new(alloc))?;
-    match use_all(used.as_slice(), bound) {
-        Some(bound) => {
-            let variables = with_bound(p, Items::new(alloc))?;
-            bind_all(variables.as_slice(), bound)
-        }
-        None => Ok(None),
+    if can_use(used.as_slice(), bound.as_slice()) {
+        Ok(Some(with_bound(p, bound)?))
+    } else {
+        Ok(None)
     }
 }
 
+/// What is bound after a goal, or None where it uses what is not.
 #[cycle(goals)]
-fn bind_goal(alloc: Global, goal: &RGoal, bound: Bound) -> Result<Option<Bound>, Memory>
-    ensures { IfOk result (λ b. b ≡ goal_binds goal.now bound) }
+fn after_goal(alloc: Global, goal: &RGoal, bound: Items<u32>) -> Result<Option<Items<u32>>, Memory>
+    ensures { IfOk result (λ b. b ≡ after_goal_of goal.now bound) }
 {
     match goal {
         RGoal::Call(callee, es, ps) => {
-            bind_call(alloc, *callee, es.as_slice(), ps.as_slice(), bound)
+            after_call(alloc, *callee, es.as_slice(), ps.as_slice(), bound)
         }
-        RGoal::Equal(a, b) => bind_equal(alloc, a, b, bound),
-        RGoal::Let(p, e) => bind_let(alloc, p, e, bound),
+        RGoal::Equal(a, b) => after_equal(alloc, a, b, bound),
+        RGoal::Let(p, e) => after_let(alloc, p, e, bound),
         RGoal::Not(inner) => {
-            let now = Items::from_slice(alloc, bound.now.as_slice())?;
-            match bind_goal(alloc, inner.get(), bound)? {
-                Some(after) => Ok(Some(Bound {
-                    ever: after.ever,
-                    now,
-                })),
+            let outside = Items::from_slice(alloc, bound.as_slice())?;
+            match after_goal(alloc, inner.get(), bound)? {
+                Some(_) => Ok(Some(outside)),
                 None => Ok(None),
             }
         }
-        RGoal::All(goals) => bind_goals(alloc, goals.as_slice(), bound),
+        RGoal::All(goals) => after_goals(alloc, goals.as_slice(), bound),
     }
 }
 
 #[cycle(goals)]
-fn bind_goals(alloc: Global, goals: &[RGoal], bound: Bound) -> Result<Option<Bound>, Memory>
-    ensures { IfOk result (λ b. b ≡ goals_bind goals.now bound) }
+fn after_goals(
+    alloc: Global,
+    goals: &[RGoal],
+    bound: Items<u32>,
+) -> Result<Option<Items<u32>>, Memory>
+    ensures { IfOk result (λ b. b ≡ after_goals_of goals.now bound) }
 {
     let mut bound = bound;
     for goal in goals {
-        match bind_goal(alloc, goal, bound)? {
+        match after_goal(alloc, goal, bound)? {
             Some(next) => bound = next,
             None => return Ok(None),
         }
@@ -232,46 +264,43 @@ fn bind_goals(alloc: Global, goals: &[RGoal], bound: Bound) -> Result<Option<Bou
     Ok(Some(bound))
 }
 
-fn bound_before_results(alloc: Global, rule: &RRule) -> Result<Option<Bound>, Memory>
+fn bound_before_results(alloc: Global, rule: &RRule) -> Result<Option<Items<u32>>, Memory>
     ensures { IfOk result (λ b. b ≡ before_results rule.now) }
 {
-    let none = Bound {
-        ever: Items::new(alloc),
-        now: Items::new(alloc),
-    };
-    match bind_patterns(alloc, rule.inputs.as_slice(), none)? {
-        Some(bound) => bind_goals(alloc, rule.goals.as_slice(), bound),
-        None => Ok(None),
-    }
+    let in_head = with_all_bound(rule.inputs.as_slice(), Items::new(alloc))?;
+    after_goals(alloc, rule.goals.as_slice(), in_head)
 }
 
-fn is_rule_bound(alloc: Global, rule: &RRule) -> Result<bool, Memory>
-    ensures { IfOk result (λ b. b ≡ rule_binds rule.now) }
+fn is_each_used_after(alloc: Global, rule: &RRule) -> Result<bool, Memory>
+    ensures { IfOk result (λ b. b ≡ uses_bound rule.now) }
 {
     match bound_before_results(alloc, rule)? {
-        Some(bound) => Ok(use_expressions(alloc, rule.results.as_slice(), bound)?.is_some()),
+        Some(bound) => {
+            let used = with_all_used(rule.results.as_slice(), Items::new(alloc))?;
+            Ok(can_use(used.as_slice(), bound.as_slice()))
+        }
         None => Ok(false),
     }
 }
 
-fn is_relation_bound(alloc: Global, rel: &RelDef) -> Result<bool, Memory>
-    ensures { IfOk result (λ b. b ≡ relation_binds rel.now) }
+fn is_relation_used_after(alloc: Global, rel: &RelDef) -> Result<bool, Memory>
+    ensures { IfOk result (λ b. b ≡ relation_uses_bound rel.now) }
 {
     for rule in rel.rules.as_slice() {
-        if !is_rule_bound(alloc, rule)? {
+        if !is_each_used_after(alloc, rule)? {
             return Ok(false);
         }
     }
     Ok(true)
 }
 
-/// Whether each variable of each rule is bound at one place alone and used only after it, one that is bound inside a `not`
-/// only up to the end of that `not`.
-pub fn are_variables_bound(alloc: Global, rels: &[RelDef]) -> Result<bool, Memory>
-    ensures { IfOk result (λ b. b ≡ list_all relation_binds rels.now) }
+/// Whether each variable of each rule is used only after the place where it is bound, one that is bound inside a `not` only up
+/// to the end of that `not`.
+pub fn are_used_after(alloc: Global, rels: &[RelDef]) -> Result<bool, Memory>
+    ensures { IfOk result (λ b. b ≡ list_all relation_uses_bound rels.now) }
 {
     for rel in rels {
-        if !is_relation_bound(alloc, rel)? {
+        if !is_relation_used_after(alloc, rel)? {
             return Ok(false);
         }
     }

@@ -7,11 +7,11 @@ ghost use Rattle.rml_resolved.specs.Size.{relation_is_small};
 ghost use Rattle.rml_resolved.specs.Typing.{type_def_fits, con_def_fits};
 
 use crate::beginning::{do_cons_begin, do_relations_begin, do_types_begin};
-use crate::binding::are_variables_bound;
+use crate::binding::{are_bound_once, are_used_after};
 use crate::circles::{do_types_end, do_vals_end};
 use crate::fits::{Counts, is_relation, is_val};
 use crate::program::Program;
-use crate::size::{are_light, are_rules_small};
+use crate::size::{are_light, are_rules_small, is_one_long};
 use crate::tables::{ConDef, RelDef, TypeDef, ValDef};
 use crate::typing::{can_be_main, is_con_def, is_type_def};
 use rml_base::{Bytes, Memory};
@@ -61,7 +61,7 @@ fn are_all_small(rels: &[RelDef]) -> bool
 }
 
 impl Parts {
-    ghost use Rattle.rml_resolved.specs.Whole.{parts_begin, parts_fit, parts_end, rules_hold, is_program};
+    ghost use Rattle.rml_resolved.specs.Whole.{parts_begin, parts_fit, parts_end, variables_hold, sizes_hold, rules_hold, is_program};
 
     fn do_begin(&self) -> bool
         ensures { result ≡ parts_begin self.now }
@@ -97,16 +97,28 @@ impl Parts {
         }
     }
 
+    fn do_variables_hold(&self, alloc: Global) -> Result<bool, Memory>
+        ensures { IfOk result (λ b. b ≡ variables_hold self.now) }
+    {
+        if are_bound_once(alloc, self.rels.as_slice())? {
+            are_used_after(alloc, self.rels.as_slice())
+        } else {
+            Ok(false)
+        }
+    }
+
+    fn do_sizes_hold(&self) -> bool
+        ensures { result ≡ sizes_hold self.now }
+    {
+        let rels = self.rels.as_slice();
+        are_all_small(rels) && is_one_long(rels) && are_light(self.vals.as_slice(), rels)
+    }
+
     fn do_rules_hold(&self, alloc: Global) -> Result<bool, Memory>
         ensures { IfOk result (λ b. b ≡ rules_hold self.now) }
     {
-        let rels = self.rels.as_slice();
-        if are_variables_bound(alloc, rels)? {
-            Ok(
-                are_all_small(rels)
-                    && are_light(self.vals.as_slice(), rels)
-                    && can_be_main(self.gives, rels, self.main),
-            )
+        if self.do_variables_hold(alloc)? {
+            Ok(self.do_sizes_hold() && can_be_main(self.gives, self.rels.as_slice(), self.main))
         } else {
             Ok(false)
         }

@@ -8,6 +8,7 @@ mod binding;
 mod checked;
 mod circles;
 mod fits;
+pub mod laws;
 mod program;
 mod size;
 mod tables;
@@ -18,3 +19,6 @@ pub use checked::Parts;
 pub use program::Program;
 pub use tables::{ConDef, RRule, RelDef, TypeDef, ValDef};
 pub use trees::{Callee, RExp, RGoal, RPat};
+
+#[cfg(test)]
+mod tests;

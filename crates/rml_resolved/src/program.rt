@@ -3,10 +3,10 @@
 ghost use Rattle.std.specs.Prelude.{IsTrue, length, map, slice_get};
 ghost use Rattle.std.specs.List.{list_all};
 ghost use Rattle.rml_resolved.specs.Beginning.{types_begin, cons_begin, relations_begin};
-ghost use Rattle.rml_resolved.specs.Binding.{relation_binds};
+ghost use Rattle.rml_resolved.specs.Binding.{relation_binds_once, relation_uses_bound};
 ghost use Rattle.rml_resolved.specs.Circles.{has_no_circle, type_needs, val_needs};
 ghost use Rattle.rml_resolved.specs.Fits.{counts_of, relation_fits, val_fits};
-ghost use Rattle.rml_resolved.specs.Size.{relation_is_small, is_light};
+ghost use Rattle.rml_resolved.specs.Size.{relation_is_small, has_long_rule, is_light};
 ghost use Rattle.rml_resolved.specs.Typing.{type_def_fits, con_def_fits, is_main};
 
 use crate::tables::{ConDef, RelDef, TypeDef, ValDef};
@@ -31,19 +31,22 @@ pub struct Program {
     ghost cons_first: { IsTrue (cons_begin names cons) },
     ghost relations_first: { IsTrue (relations_begin names rels) },
     // numbers lead into their tables, arguments are as many as declared, integers are in range, chains have two items,
-    // a val has no variable, a relation has a rule
+    // a constructor belongs to a datatype and has fewer than 2 ^ 20 arguments, a val has no variable, a relation has a rule
     ghost types_fit: { IsTrue (list_all (type_def_fits (length names) types) types) },
     ghost cons_fit: { IsTrue (list_all (con_def_fits (length names) types) cons) },
     ghost vals_fit: { IsTrue (list_all (val_fits (counts_of names vals rels) types cons) vals) },
     ghost relations_fit: { IsTrue (list_all (relation_fits (counts_of names vals rels) types cons) rels) },
-    // no type stands for one that it is part of, and no val needs itself
+    // no type stands for one that it is part of, and no val needs itself (see the laws)
     ghost types_end: { IsTrue (has_no_circle (map type_needs types)) },
     ghost vals_end: { IsTrue (has_no_circle (map val_needs vals)) },
-    // each variable is bound at one place and used only after it
-    ghost variables_bound: { IsTrue (list_all relation_binds rels) },
-    // a rule has no more parts than tokens, or eight; all rules and vals together are below 2 ^ 27
+    // each variable of a rule is bound, at one place alone, and used only after it
+    ghost bound_once: { IsTrue (list_all relation_binds_once rels) },
+    ghost used_after: { IsTrue (list_all relation_uses_bound rels) },
+    // a rule has no more parts than tokens, or eight; the longest has 40 tokens, as the prelude's has, or more; all rules and
+    // vals together are below 2 ^ 27
     ghost rules_small: { IsTrue (list_all relation_is_small rels) },
+    ghost long_rule: { IsTrue (has_long_rule rels) },
     ghost light: { IsTrue (is_light vals rels) },
-    // `main` is there, of the type that `gives` tells
+    // `main` is there, of the type that `gives` tells, which has no variables
     ghost main_fits: { IsTrue (is_main gives (slice_get rels main)) },
 }

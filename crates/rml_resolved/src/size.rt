@@ -1,8 +1,8 @@
 //! How large rules and vals are. A count stands still at the end of its type.
 
-ghost use Rattle.std.specs.Prelude.{◌≡◌, ◌^◌, ◌-◌, min, sum_by};
+ghost use Rattle.std.specs.Prelude.{◌≡◌, ◌^◌, ◌-◌, min, max, fold, sum_by};
 ghost use Rattle.std.specs.List.{list_all};
-ghost use Rattle.rml_resolved.specs.Size.{pattern_size, exp_size, goal_size, rule_size, rule_is_small, relation_is_small, relation_tokens, val_size, is_light};
+ghost use Rattle.rml_resolved.specs.Size.{pattern_size, exp_size, goal_size, rule_size, rule_is_small, relation_is_small, relation_tokens, tokens_of, longest as longest_of, has_long_rule, val_size, is_light};
 
 use crate::tables::{RRule, RelDef, ValDef};
 use crate::trees::{RExp, RGoal, RPat};
@@ -134,6 +134,35 @@ fn count_all_tokens(rels: &[RelDef]) -> u64
         count = count.saturating_add(count_tokens(rel));
     }
     count
+}
+
+/// The greater of a number and the tokens of a relation's longest rule.
+fn longer(least: u32, rel: &RelDef) -> u32
+    ensures { result ≡ fold max least (tokens_of rel.now) }
+{
+    let mut tokens = least;
+    for rule in rel.rules.as_slice() {
+        tokens = tokens.max(rule.tokens);
+    }
+    tokens
+}
+
+/// The tokens of the longest rule.
+pub fn longest(rels: &[RelDef]) -> u32
+    ensures { result ≡ longest_of rels.now }
+{
+    let mut tokens = 0;
+    for rel in rels {
+        tokens = longer(tokens, rel);
+    }
+    tokens
+}
+
+/// Whether a rule has 40 tokens or more, as the longest of the prelude's has.
+pub fn is_one_long(rels: &[RelDef]) -> bool
+    ensures { result ≡ has_long_rule rels.now }
+{
+    40 <= longest(rels)
 }
 
 fn count_vals(vals: &[ValDef]) -> u64

@@ -3,7 +3,7 @@
 ghost use Rattle.std.specs.Prelude.{◌≡◌, map, slice_get};
 ghost use Rattle.rml_types.specs.Schemes.{every};
 ghost use Rattle.rml_types.specs.declared.tree.SchemeTree.{out-SchemeTree};
-ghost use Rattle.rml_resolved.specs.Typing.{takes, type_fits, scheme_fits, means_fits, type_def_fits, is_var, are_vars, is_whole, gives_whole, makes_whole, con_def_fits, is_constant, is_list_of_texts, takes_texts, gives_integer, is_main_type, is_main_scheme, is_main};
+ghost use Rattle.rml_resolved.specs.Typing.{takes, type_fits, scheme_fits, means_fits, type_def_fits, is_datatype as is_datatype_in, is_var, are_vars, is_whole, gives_whole, makes_whole, con_def_fits, is_constant, is_list_of_texts, takes_texts, gives_integer, is_main_type, is_main_scheme, is_main};
 
 use crate::tables::{ConDef, RelDef, TypeDef};
 use rml_builtin::types::{INT, LIST, STRING};
@@ -76,6 +76,15 @@ pub fn is_type_def(names: usize, types: &[TypeDef], def: &TypeDef) -> bool
         && is_meaning(types, def.params, &def.means)
 }
 
+fn is_datatype(types: &[TypeDef], number: u32) -> bool
+    ensures { result ≡ is_datatype_in types.now number }
+{
+    match at(types, number as usize) {
+        Some(def) => def.means.is_none(),
+        None => false,
+    }
+}
+
 pub fn is_variable(k: usize, tree: &SchemeTree) -> bool
     ensures { result ≡ is_var k (out-SchemeTree tree.now) }
 {
@@ -128,11 +137,14 @@ fn is_making(name: u32, vars: u32, arity: u32, tree: &SchemeTree) -> bool
     }
 }
 
-/// Whether a constructor has a name, and a whole type from its arguments to its datatype over the parameters.
+/// Whether a constructor has a name, a datatype, fewer than 2^20 arguments, and a whole type from these to its datatype over
+/// the parameters.
 pub fn is_con_def(names: usize, types: &[TypeDef], def: &ConDef) -> bool
     ensures { result ≡ con_def_fits names types.now def.now }
 {
     (def.name as usize) < names
+        && is_datatype(types, def.of)
+        && def.arity < 1 << 20
         && is_type_whole(types, &def.scheme.body)
         && is_making(def.of, def.scheme.vars, def.arity, &def.scheme.body)
 }
@@ -188,14 +200,14 @@ fn is_type_of_main(gives: bool, tree: &SchemeTree) -> bool
     }
 }
 
-/// Whether a relation is there and can be `main`: its declared type is from a list of texts to nothing, or to an integer
-/// where it `gives` one.
+/// Whether a relation is there and can be `main`: its declared type has no variables and is from a list of texts to nothing, or
+/// to an integer where it `gives` one.
 pub fn can_be_main(gives: bool, rels: &[RelDef], main: u32) -> bool
     ensures { result ≡ is_main gives (slice_get rels.now main) }
 {
     match at(rels, main as usize) {
         Some(rel) => match &rel.scheme {
-            Some(scheme) => is_type_of_main(gives, &scheme.body),
+            Some(scheme) => scheme.vars == 0 && is_type_of_main(gives, &scheme.body),
             None => false,
         },
         None => false,

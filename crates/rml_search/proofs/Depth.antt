@@ -11,6 +11,7 @@ use Rattle.rml_builtin.specs.Given.{Bindings}
 use Rattle.rml_builtin.specs.BuiltIns.{built_in_at}
 use Rattle.rml_resolved.specs.declared.program.Program.{Program}
 use Rattle.rml_resolved.specs.declared.tables.RRule.{RRule}
+use Rattle.rml_resolved.specs.Size.{longest}
 use Rattle.rml_resolved.specs.declared.trees.RExp.{RExp}
 use Rattle.rml_resolved.specs.declared.trees.RPat.{RPat}
 use Rattle.rml_resolved.specs.declared.trees.Callee.{Callee}
@@ -22,7 +23,7 @@ use Rattle.rml_search.specs.declared.state.Matched.TheVariants as matched
 use Rattle.rml_search.specs.declared.state.After.{After}
 use Rattle.rml_search.specs.Matching.{Env, matching, matching_all}
 use Rattle.rml_search.specs.Values.{value_of, values_of}
-use Rattle.rml_search.specs.Search.{longest, step, Called, RelationCalls, Action, goes_on, in_turn, from_match, taken, trace_of_built_in, from_built_in, with_value, relation_of, relation_called, called, goal_at, going, going_all, answer, past_head, by_rule, try, rules_in, relations_to}
+use Rattle.rml_search.specs.Search.{step, Called, RelationCalls, Action, goes_on, in_turn, from_match, taken, trace_of_built_in, from_built_in, with_value, relation_of, relation_called, called, goal_at, going, going_all, answer, past_head, by_rule, try, rules_in, relations_to}
 
 -- at most this many steps are left
 abbrev Left : {A : Type 0} → ℕ → Went A → Type 0
@@ -71,7 +72,7 @@ agrees_unless b (GoneWrong t) v go h each = (ap (λ x. unless x go) h.0, tt)
 agrees_step : {A : Type 0} (p : Program) (b n : ℕ) (go next : ℕ → Went A) → ((m : ℕ) → m < n → Agrees b (go m) (next m)) → Agrees b (step p go n) (step p next n)
 agrees_step p b zero go next each = (refl, tt)
 agrees_step p b (suc n) go next each =
-    agrees_after b (record { text = []; made = 0; weighed = 16 * longest p + 64 }) (go n) (next n) (each n (omega arith))
+    agrees_after b (record { text = []; made = 0; weighed = 16 * longest p.rels + 64 }) (go n) (next n) (each n (omega arith))
 
 agrees_with : {A C : Type 0} (b : ℕ) (o : Option A) (go next : A → ℕ → Went C) (n : ℕ) → ((a : A) → Agrees b (go a n) (next a n)) → Agrees b (with_value o go n) (with_value o next n)
 agrees_with b None go next n each = (refl, tt)

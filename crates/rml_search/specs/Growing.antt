@@ -15,6 +15,7 @@ use Rattle.rml_builtin.specs.Given.{Bindings}
 use Rattle.rml_builtin.specs.BuiltIns.{built_in_at}
 use Rattle.rml_resolved.specs.declared.program.Program.{Program}
 use Rattle.rml_resolved.specs.declared.tables.RRule.{RRule}
+use Rattle.rml_resolved.specs.Size.{longest}
 use Rattle.rml_resolved.specs.declared.trees.RExp.{RExp}
 use Rattle.rml_resolved.specs.declared.trees.RPat.{RPat}
 use Rattle.rml_resolved.specs.declared.trees.Callee.{Callee}
@@ -26,12 +27,12 @@ use Rattle.rml_search.specs.declared.state.Matched.TheVariants as matched
 use Rattle.rml_search.specs.declared.state.After.{After}
 use Rattle.rml_search.specs.Matching.{Env, matching, matching_all}
 use Rattle.rml_search.specs.Values.{value_of, values_of}
-use Rattle.rml_search.specs.Search.{longest, step, Called, RelationCalls, Action, goes_on, in_turn, from_match, taken, trace_of_built_in, from_built_in, with_value, relation_of, relation_called, called, goal_at, going, going_all, answer, past_head, by_rule, try, rules_in, relation_body, search_of}
+use Rattle.rml_search.specs.Search.{step, Called, RelationCalls, Action, goes_on, in_turn, from_match, taken, trace_of_built_in, from_built_in, with_value, relation_of, relation_called, called, goal_at, going, going_all, answer, past_head, by_rule, try, rules_in, relation_body, search_of}
 use Rattle.rml_search.specs.Runs.{integer_in, argument, main_called, run_of, runs_of}
 
 grows_weighed : {A : Type 0} (p : Program) (j n : ℕ) (go next : ℕ → Went A) → ((m : ℕ) → Grows j (go m) (next (m + j))) → Grows j (step p go n) (step p next (n + j))
 grows_weighed p j n go next each =
-    let weight : Trace = record { text = []; made = 0; weighed = 16 * longest p + 64 } in
+    let weight : Trace = record { text = []; made = 0; weighed = 16 * longest p.rels + 64 } in
     grows_step j n (λ m. after weight (go m)) (λ m. after weight (next m)) (λ m. grows_after j weight (go m) (next (m + j)) (each m))
 
 grows_with : {A C : Type 0} (j : ℕ) (o : Option A) (go next : A → ℕ → Went C) (n : ℕ) → ((a : A) → Grows j (go a n) (next a (n + j))) → Grows j (with_value o go n) (with_value o next (n + j))

@@ -1,7 +1,7 @@
 -- The search: goals from left to right, rules from top to bottom, the first answer of a call alone. What a part of it gives
 -- is an answer or none, with the steps that are left, or it is cut or Wrong; and with it a trace: the text that it printed,
 -- the cells of the texts, lists and vectors that its built-ins made, and the weight of its steps.
-use Rattle.std.specs.Prelude.{ℕ, ◌+◌, ◌*◌, if◌then◌else◌, List, [], ◌∷◌, map, fold, max, Option, Some, None, option_and_then, slice_get}
+use Rattle.std.specs.Prelude.{ℕ, ◌+◌, ◌*◌, if◌then◌else◌, List, [], ◌∷◌, map, Option, Some, None, option_and_then, slice_get}
 use Rattle.rml_base.specs.Went.{Trace, untraced, Went, Yes, No, CutOff, GoneWrong, after, take_step, then_go, or_else, unless}
 use Rattle.rml_base.specs.Depth.{Calls, calls_to, calls_by_steps}
 use Rattle.rml_value.specs.declared.value.Value.{Value, out-Value}
@@ -18,6 +18,7 @@ use Rattle.rml_builtin.specs.Made.{made}
 use Rattle.rml_resolved.specs.declared.program.Program.{Program}
 use Rattle.rml_resolved.specs.declared.tables.RelDef.{RelDef}
 use Rattle.rml_resolved.specs.declared.tables.RRule.{RRule}
+use Rattle.rml_resolved.specs.Size.{longest}
 use Rattle.rml_resolved.specs.declared.trees.RExp.{RExp}
 use Rattle.rml_resolved.specs.declared.trees.RPat.{RPat}
 use Rattle.rml_resolved.specs.declared.trees.Callee.{Callee}
@@ -32,13 +33,9 @@ use Rattle.rml_search.specs.Values.{look, val_of, value_of, values_of}
 
 -- ---- steps
 
--- the tokens of the longest rule
-unfoldable pub longest : Program → ℕ
-longest p = fold (λ so_far (r : RelDef). fold (λ n (rule : RRule). max n rule.tokens) so_far r.rules) 0 p.rels
-
 -- a step, which weighs by the longest rule; without one it is cut
 abbrev pub step : {A : Type 0} → Program → (ℕ → Went A) → ℕ → Went A
-step p go n = take_step (λ m. after (record { text = []; made = 0; weighed = 16 * longest p + 64 }) (go m)) n
+step p go n = take_step (λ m. after (record { text = []; made = 0; weighed = 16 * longest p.rels + 64 }) (go m)) n
 
 -- ---- goals, over what the calls give
 

@@ -17,8 +17,10 @@ invariant_of-result c =
       relations_fit = f.relations_fit;
       types_end = f.types_end;
       vals_end = f.vals_end;
-      variables_bound = f.variables_bound;
+      bound_once = f.bound_once;
+      used_after = f.used_after;
       rules_small = f.rules_small;
+      long_rule = f.long_rule;
       light = f.light;
       main_fits = f.main_fits;
     }
