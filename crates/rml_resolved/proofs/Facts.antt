@@ -12,11 +12,11 @@ use Rattle.rml_resolved.specs.Typing.{type_def_fits, con_def_fits, is_main}
 use Rattle.rml_resolved.specs.Whole.{parts_begin, parts_fit, parts_end, variables_hold, sizes_hold, rules_hold, is_program}
 
 -- both tests of two hold
-record Both (a b : Bool) : Type 0 where
+pub record Both (a b : Bool) : Type 0 where
   pub first : IsTrue a
   pub second : IsTrue b
 
-both : (a b : Bool) → IsTrue (a && b) → Both a b
+pub both : (a b : Bool) → IsTrue (a && b) → Both a b
 both true b h = record { first = refl; second = h }
 both false b h = absurd (cc)
 

@@ -71,7 +71,7 @@ on_no_circle graph (suc n) k r h = on_no_circle graph n k r (reached graph r n h
 
 -- ---- a number that is not finished leads to a circle
 
-both_ways : (a b : Bool) → (a || b) ≡ true → (a ≡ true) ⊎ (b ≡ true)
+pub both_ways : (a b : Bool) → (a || b) ≡ true → (a ≡ true) ⊎ (b ≡ true)
 both_ways true b h = inl refl
 both_ways false b h = inr h
 
@@ -83,7 +83,7 @@ one_fails : (a b : Bool) → (a && b) ≡ false → (a ≡ false) ⊎ (b ≡ fal
 one_fails false b h = inl refl
 one_fails true b h = inr h
 
-is_it : (b : Bool) → (b ≡ true) ⊎ (b ≡ false)
+pub is_it : (b : Bool) → (b ≡ true) ⊎ (b ≡ false)
 is_it true = inl refl
 is_it false = inr refl
 
@@ -120,7 +120,7 @@ or_rest : (a b : Bool) → (a || b) ≡ false → b ≡ false
 or_rest false b h = h
 or_rest true b h = absurd (cc)
 
-apart : (k : ℕ) (xs : List ℕ) → list_any (eqb k) xs ≡ false → AllByRecursion (λ y. eqb k y ≡ false) xs
+pub apart : (k : ℕ) (xs : List ℕ) → list_any (eqb k) xs ≡ false → AllByRecursion (λ y. eqb k y ≡ false) xs
 apart k [] h = tt
 apart k (x ∷ xs) h = (or_left (eqb k x) (list_any (eqb k) xs) h, apart k xs (or_rest (eqb k x) (list_any (eqb k) xs) h))
 

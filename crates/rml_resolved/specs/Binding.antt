@@ -55,7 +55,7 @@ abbrev pub is_distinct : List ℕ → Bool
 is_distinct [] = true
 is_distinct (x ∷ xs) = not (contains x xs) && is_distinct xs
 
--- none is bound at two places, and as many are bound as the rule has; since each is below `vars`, each is bound
+-- none is bound at two places, and as many are bound as the rule has; where each is below `vars`, each of the rule is bound
 abbrev pub binds_once : RRule → Bool
 binds_once r = is_distinct (rule_binds r) && (length (rule_binds r) == r.vars)
 
