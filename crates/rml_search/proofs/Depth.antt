@@ -23,7 +23,7 @@ use Rattle.rml_search.specs.declared.state.Matched.TheVariants as matched
 use Rattle.rml_search.specs.declared.state.After.{After}
 use Rattle.rml_search.specs.Matching.{Env, matching, matching_all}
 use Rattle.rml_search.specs.Values.{value_of, values_of}
-use Rattle.rml_search.specs.Search.{step, Called, RelationCalls, Action, goes_on, in_turn, from_match, taken, trace_of_built_in, from_built_in, with_value, relation_of, relation_called, called, goal_at, going, going_all, answer, past_head, by_rule, try, rules_in, relations_to}
+use Rattle.rml_search.specs.Search.{step, Called, RelationCalls, Action, goes_on, in_turn, from_match, taken, trace_of_built_in, from_built_in, with_value, relation_of, relation_called, called, goal_at, going, going_all, answer, past_head, try, rules_in, relations_to}
 
 -- at most this many steps are left
 abbrev Left : {A : Type 0} → ℕ → Went A → Type 0

@@ -1,3 +1,5 @@
 pub mod Chains
 pub mod Vals
 pub mod Depth
+pub mod Shown
+pub mod Ends

@@ -1,11 +1,11 @@
 -- The search with more steps: an end stays, and a trace only grows. One lemma for each way to go on.
-use Rattle.std.specs.Prelude.{◌≡◌, ℕ, zero, suc, ◌+◌, ◌*◌, ◌≤◌, Bool, true, false, if◌then◌else◌, List, [], ◌∷◌, map, Option, Some, None, slice_get}
-use Rattle.std.proofs.Common.{refl, sym, ap, subst, arith}
-use Rattle.rml_base.specs.Run.{Run, Rest, Answer as Answered, Failure, bare}
-use Rattle.rml_base.specs.Steady.{IsSteady, Later, steady_longer, longer_always}
-use Rattle.rml_base.specs.Went.{Trace, untraced, Went, Yes, No, CutOff, GoneWrong, after, take_step, then_go, or_else, unless, followed}
-use Rattle.rml_base.specs.Growing.{Grows, grows_after, grows_step, grows_then, grows_else, grows_unless, grows_if, grows_followed}
-use Rattle.rml_base.specs.Depth.{Calls, calls_to, calls_by_steps, GrowsWithCalls, calls_grow}
+use Rattle.std.specs.Prelude.{◌≡◌, ℕ, suc, ◌+◌, ◌*◌, Bool, true, false, if◌then◌else◌, List, [], ◌∷◌, map, Option, Some, None, slice_get}
+use Rattle.std.proofs.Common.{refl, sym, subst, arith}
+use Rattle.rml_base.specs.Run.{Answer as Answered, Failure, bare}
+use Rattle.rml_base.specs.Steady.{IsSteady, steady_longer, longer_always}
+use Rattle.rml_base.specs.Went.{Trace, untraced, Went, Yes, No, after}
+use Rattle.rml_base.specs.Growing.{Grows, grows_after, grows_step, grows_then, grows_else, grows_unless, grows_followed}
+use Rattle.rml_base.specs.Depth.{GrowsWithCalls, calls_grow}
 use Rattle.rml_value.specs.declared.value.Value.{Value}
 use Rattle.rml_value.specs.Same.{same}
 use Rattle.rml_builtin.specs.declared.given.Answer.{Answer}
@@ -27,8 +27,8 @@ use Rattle.rml_search.specs.declared.state.Matched.TheVariants as matched
 use Rattle.rml_search.specs.declared.state.After.{After}
 use Rattle.rml_search.specs.Matching.{Env, matching, matching_all}
 use Rattle.rml_search.specs.Values.{value_of, values_of}
-use Rattle.rml_search.specs.Search.{step, Called, RelationCalls, Action, goes_on, in_turn, from_match, taken, trace_of_built_in, from_built_in, with_value, relation_of, relation_called, called, goal_at, going, going_all, answer, past_head, by_rule, try, rules_in, relation_body, search_of}
-use Rattle.rml_search.specs.Runs.{integer_in, argument, main_called, run_of, runs_of}
+use Rattle.rml_search.specs.Search.{step, Called, RelationCalls, Action, goes_on, in_turn, from_match, taken, trace_of_built_in, from_built_in, with_value, relation_of, relation_called, called, goal_at, going, going_all, answer, past_head, try, rules_in, relation_body, search_of}
+use Rattle.rml_search.specs.Runs.{integer_in, argument, main_called, runs_of}
 
 grows_weighed : {A : Type 0} (p : Program) (j n : ℕ) (go next : ℕ → Went A) → ((m : ℕ) → Grows j (go m) (next (m + j))) → Grows j (step p go n) (step p next (n + j))
 grows_weighed p j n go next each =

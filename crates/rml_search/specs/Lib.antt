@@ -3,3 +3,5 @@ pub mod Values
 pub mod Search
 pub mod Runs
 pub mod Growing
+pub mod Shown
+pub mod Size

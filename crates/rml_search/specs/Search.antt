@@ -2,7 +2,7 @@
 -- is an answer or none, with the steps that are left, or it is cut or Wrong; and with it a trace: the text that it printed,
 -- the cells of the texts, lists and vectors that its built-ins made, and the weight of its steps.
 use Rattle.std.specs.Prelude.{ℕ, ◌+◌, ◌*◌, if◌then◌else◌, List, [], ◌∷◌, map, Option, Some, None, option_and_then, slice_get}
-use Rattle.rml_base.specs.Went.{Trace, untraced, Went, Yes, No, CutOff, GoneWrong, after, take_step, then_go, or_else, unless}
+use Rattle.rml_base.specs.Went.{Trace, untraced, Went, Yes, No, GoneWrong, after, take_step, then_go, or_else, unless}
 use Rattle.rml_base.specs.Depth.{Calls, calls_to, calls_by_steps}
 use Rattle.rml_value.specs.declared.value.Value.{Value, out-Value}
 use Rattle.rml_value.specs.declared.value.Value.TheOpen.{Value-F}

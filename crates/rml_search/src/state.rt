@@ -24,9 +24,32 @@ pub enum Matched {
     Wrong,
 }
 
+/// Whether a value has a head and a tail.
+#[derive(Clone, Copy)]
+pub enum Parts {
+    HeadAndTail,
+    /// Another constructor.
+    Other,
+    /// No constructor, or `::` without its two arguments, which typing rules out.
+    Wrong,
+}
+
 /// What the variables stand for after goals, and the bindings.
 #[derive(Drop)]
 pub struct After {
     pub env: Env,
     pub bindings: Bindings,
+}
+
+/// What was printed.
+pub type Text = Items<u8>;
+
+/// How a part of the search went: with what it gave or without, and the steps that are left; or it was cut, or it met what
+/// has no meaning. Each with what it printed.
+#[derive(Drop)]
+pub enum Went<A> {
+    Yes(A, Text, u32),
+    No(Text, u32),
+    Cut(Text),
+    Wrong(Text),
 }
