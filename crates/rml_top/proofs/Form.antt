@@ -1,14 +1,13 @@
 -- What reading from the left finds is the first form, and each text of the first form is found.
-use Rattle.std.proofs.Common.{◌≡◌, ℕ, zero, suc, ◌+◌, ◌-◌, ◌<◌, ◌≤◌, Bool, true, false, ◌&&◌, ◌==◌, cond, List, [], ◌∷◌, ◌++◌, length, map, Option, Some, None, refl, sym, ap, subst, ◌∙◌, append_assoc, arith, length-append}
+use Rattle.std.proofs.Common.{◌≡◌, ℕ, zero, suc, ◌<◌, Bool, true, false, ◌==◌, cond, List, [], ◌∷◌, ◌++◌, length, map, Option, Some, None, refl, sym, ap, subst, ◌∙◌, append_assoc, arith, length-append}
 use Rattle.std.specs.Prelude.{codes, IfSome, IfNone, IfOk, Result, Ok, Err}
 use Rattle.std.specs.Option.{option_map}
 use Rattle.std.specs.Str.{bytes_eq}
 use Rattle.std.specs.List.{AllByRecursion}
 use Rattle.std.proofs.lemmas.Bool.{eqb-true}
-use Rattle.std.proofs.lemmas.Slice.Eq.{bytes_eq-Decides}
-use Rattle.rml_top.specs.FirstForm.{is_module_name, is_literal, is_dashes, signature, interface, opening, conclusion, Premise, premise, further, Parts, tokens_of, literals_of, IsFirstForm}
+use Rattle.rml_top.specs.FirstForm.{is_module_name, is_literal, is_dashes, signature, interface, opening, conclusion, Premise, premise, further, Parts, literals_of, IsFirstForm}
 use Rattle.rml_top.specs.Matching.{◌>>=◌, after, after_one, next_is, after_type, after_rule, literal_at, bracketed_at, premise_at, premises_at, with_literal, ends, literals_in}
-use Rattle.rml_top.proofs.Reading.{bind_some, guard_some, after-is, after-append}
+use Rattle.rml_top.proofs.Reading.{bind_some, guard_some, after-is}
 
 -- ---- each text of the first form is found
 

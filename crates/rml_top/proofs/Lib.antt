@@ -1,6 +1,11 @@
 pub mod Reading
-pub mod Form
+pub mod Alone
+pub mod FileWalk
+pub mod Performing
+pub mod Unique
+pub mod Ending
 pub mod Notes
+pub mod Turns
+pub mod Form
 pub mod Pieces
 pub mod Printing
-pub mod Ending

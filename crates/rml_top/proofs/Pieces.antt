@@ -1,5 +1,5 @@
 -- Cutting a text into pieces, none of them a comment.
-use Rattle.std.proofs.Common.{◌≡◌, ℕ, zero, suc, ◌+◌, ◌<◌, ◌≤◌, Bool, true, false, ◌&&◌, not, cond, ◌==◌, List, [], ◌∷◌, ◌++◌, length, take, drop, Some, None, refl, sym, ap, subst, ◌∙◌, append_assoc, append-nil, arith, length-append, length-take, take-append-drop}
+use Rattle.std.proofs.Common.{◌≡◌, ℕ, zero, suc, ◌<◌, ◌≤◌, Bool, true, false, ◌&&◌, not, cond, ◌==◌, List, [], ◌∷◌, ◌++◌, length, take, drop, refl, sym, ap, subst, ◌∙◌, append-nil, arith, length-append, length-take, take-append-drop}
 use Rattle.std.specs.List.{list_all}
 use Rattle.rml_lex.specs.Machine.{Longest, Stuck}
 use Rattle.rml_lex.specs.Reading.{Part, Reaches, IsSound}

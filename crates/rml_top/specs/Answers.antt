@@ -1,63 +1,88 @@
--- The answers of the top call, one by one: when each comes, and what was written then.
-use Rattle.std.specs.Prelude.{◌≡◌, ℕ, ℤ, List, [], ◌∷◌, ◌++◌, ◌⊎◌, codes, IfSome}
-use Rattle.std.specs.FinMap as map
+-- The answers of the top call, one by one: when each comes, and what was read and written then.
+use Rattle.std.specs.Prelude.{◌≡◌, ℕ, ℤ, ◌+◌, List, [], ◌⊎◌, codes, IsSome}
 use Rattle.std.specs.declared.option.Option.{Option}
-use Rattle.std.specs.declared.option.Option.TheVariants.{Some, None}
+use Rattle.std.specs.declared.option.Option.TheVariants.{None, Some}
+use Rattle.rml_base.specs.declared.place.Place.{Place}
 use Rattle.rml_io.specs.Counts.{Rose}
-use Rattle.rml_io.specs.Files.{Held}
 use Rattle.rml_io.specs.Sink.{and_bytes, TookFront}
+use Rattle.rml_stages.specs.declared.refusal.Kind.{Kind}
+use Rattle.rml_stages.specs.declared.refusal.Which.{Which}
+use Rattle.rml_words.specs.Forms.{Asks}
 use Rattle.rml_top.specs.declared.status.Status.{Status}
-use Rattle.rml_top.specs.declared.status.Status.TheVariants.{Done, ReadFault, WriteFault, Memory, Unbuilt}
-use Rattle.rml_top.specs.Ends.{Holds, note_of}
-use Rattle.rml_top.specs.Text.{IsText}
+use Rattle.rml_top.specs.declared.status.Status.TheVariants.{Done, Usage, ReadFault, WriteFault, Syntax, Limit, Memory, Unbuilt}
+use Rattle.rml_top.specs.Due.{IsDue}
+use Rattle.rml_top.specs.Ends.{Work, ReadsTexts, Counts, Takes, IsPerformed, Call, Noted, note_for}
+use Rattle.rml_top.specs.Line.{Reads, text_names}
+use Rattle.rml_top.specs.Notes.{name_at, with_file}
+use Rattle.rml_top.specs.Sources.{IsReached, HaveRead}
 
--- What is seen of a call from outside: the file of its words, what the files hold, and what the sinks have and how many
--- faults were counted, before and after it.
-pub record Call : Type 0 where
-  pub file : Option (List ℕ)
-  pub held : Option Held
-  pub out : Option (List ℕ)
-  pub out' : Option (List ℕ)
-  pub note : Option (List ℕ)
-  pub note' : Option (List ℕ)
-  pub reads : ℕ
-  pub reads' : ℕ
-  pub writes : ℕ
-  pub writes' : ℕ
-  pub notes : ℕ
-  pub notes' : ℕ
+abbrev pub IsDueFor : Work → Status → List ℕ → Type 0
+IsDueFor w status text = IsDue w.files.held w.words w.line status text
+
+-- This status is due, and this output; all of that was written, and all of its note.
+pub record IsWhole (c : Call) (status : Status) (text : List ℕ) : Type 0 where
+  pub due : IsDueFor c.work status text
+  pub out : c.work.out' ≡ and_bytes c.work.out text
+  pub note : c.note' ≡ and_bytes c.note (note_for c.work.line status)
+  pub read : Counts c.work status
+  pub taken : Takes c.work status
+
+-- The same without output, to which nothing was written.
+pub record IsRefused (c : Call) (status : Status) : Type 0 where
+  pub whole : IsWhole c status []
+  pub out : c.work.out' ≡ c.work.out
+
+-- A read failed: of the file that was due, behind others that were read and are within the limits.
+pub record IsReadFault (c : Call) (k : ℕ) : Type 0 where
+  pub asks : Asks
+  pub line : c.work.line ≡ Some asks
+  pub reads : Reads asks
+  pub reached : IsReached c.work.files.held (text_names asks) k
+  pub fault : Rose c.work.files.faults c.work.files'.faults
+  pub out : c.work.out' ≡ c.work.out
+  pub note : c.note' ≡ and_bytes c.note (with_file (name_at (text_names asks) k) (codes "read fault\n"))
+  pub read : HaveRead (text_names asks) (k + 1) c.work.files c.work.files'
+
+-- A write of the output that is due failed, and then all of the note for that was written.
+pub record OutputFailed (c : Call) : Type 0 where
+  pub fault : Rose c.work.writes c.work.writes'
+  pub text : List ℕ
+  pub due : IsDueFor c.work (Done None) text
+  pub out : TookFront c.work.out c.work.out' text
+  pub note : c.note' ≡ and_bytes c.note (codes "write fault\n")
+
+-- A write of the note that was due failed.
+pub record NoteFailed (c : Call) : Type 0 where
+  pub fault : Rose c.notes c.notes'
+  pub due : Status
+  pub performed : IsPerformed c.work due
+  pub note : TookFront c.note c.note' (note_for c.work.line due)
 
 -- no read or write failed
 pub record NoFault (c : Call) : Type 0 where
-  pub read : ¬ Rose c.reads c.reads'
-  pub write : ¬ Rose c.writes c.writes'
+  pub read : ¬ Rose c.work.files.faults c.work.files'.faults
+  pub write : ¬ Rose c.work.writes c.work.writes'
   pub note : ¬ Rose c.notes c.notes'
 
--- the words are `run FILE`, and these bytes are told to be held under that name
-pub record Reads (c : Call) (bytes : List ℕ) : Type 0 where
-  pub file : List ℕ
-  pub files : Held
-  pub words : c.file ≡ Some file
-  pub told : c.held ≡ Some files
-  pub bytes_are : map.get files file ≡ Some bytes
-
 pub record Answers (c : Call) (status : Status) : Type 0 where
-  -- Done: the text is of the first form, and all that it prints was written.
-  pub done : (k : Option ℤ) → status ≡ Done k → (file : List ℕ) × (text : List ℕ) × (c.file ≡ Some file) × (k ≡ None) × Holds c.held file (λ bytes. IsText bytes text)
-      × (c.out' ≡ and_bytes c.out text) × (c.note' ≡ and_bytes c.note (codes "yes\n"))
-  -- Unbuilt: other words, or another text, of which nothing was written.
-  pub unbuilt : status ≡ Unbuilt → IfSome c.file (λ file. Holds c.held file (λ bytes. (text : List ℕ) → ¬ IsText bytes text))
-      × (c.out' ≡ c.out) × (c.note' ≡ and_bytes c.note (codes "unbuilt\n"))
-  pub read_fault : (k : ℕ) → status ≡ ReadFault k → (file : List ℕ) × (c.file ≡ Some file) × (k ≡ 0) × Rose c.reads c.reads'
-      × (c.out' ≡ c.out) × (c.note' ≡ and_bytes c.note (file ++ codes ": read fault\n"))
-  -- WriteFault: a write to out failed, and then a front of the note for that stands, or a write of the note that was due.
-  pub write_fault : status ≡ WriteFault → (Rose c.writes c.writes' × TookFront c.note c.note' (codes "write fault\n"))
-      ⊎ (Rose c.notes c.notes' × (file : List ℕ) × (due : Status) × TookFront c.note c.note' (note_of file due))
-  pub memory : status ≡ Memory → (c.out' ≡ c.out) × (c.note' ≡ and_bytes c.note (codes "memory\n"))
-  -- Nothing is written but a front of what a text of the first form prints.
-  pub only_accepted : (c.out' ≡ c.out)
-      ⊎ ((file : List ℕ) × (text : List ℕ) × (c.file ≡ Some file) × Holds c.held file (λ bytes. IsText bytes text) × TookFront c.out c.out' text)
-  -- Where nothing fails, what is of the first form is done, and nothing else.
-  pub first_form : NoFault c → (bytes text : List ℕ) → Reads c bytes → IsText bytes text → (status ≡ Done None) ⊎ (status ≡ Memory)
-  pub other_text : NoFault c → (bytes : List ℕ) → Reads c bytes → ((text : List ℕ) → ¬ IsText bytes text) → (status ≡ Unbuilt) ⊎ (status ≡ Memory)
-  pub other_words : NoFault c → c.file ≡ None → status ≡ Unbuilt
+  pub done : (k : Option ℤ) → status ≡ Done k → (k ≡ None) × (text : List ℕ) × IsWhole c (Done None) text
+  pub usage : status ≡ Usage → (c.work.line ≡ None) × IsRefused c Usage
+  pub read_fault : (k : ℕ) → status ≡ ReadFault k → IsReadFault c k
+  pub write_fault : status ≡ WriteFault → OutputFailed c ⊎ NoteFailed c
+  pub syntax_fault : (place : Place) (kind : Kind) → status ≡ Syntax place kind → IsRefused c (Syntax place kind)
+  pub limit : (place : Option Place) (which : Which) → status ≡ Limit place which → IsRefused c (Limit place which)
+  pub memory : status ≡ Memory → ReadsTexts c.work × (c.work.out' ≡ c.work.out) × (c.note' ≡ and_bytes c.note (codes "memory\n"))
+  pub unbuilt : status ≡ Unbuilt → IsRefused c Unbuilt
+  -- Nothing is written to the output but a front of what accepted texts give.
+  pub only_accepted : (c.work.out' ≡ c.work.out) ⊎ ((text : List ℕ) × IsDueFor c.work (Done None) text × TookFront c.work.out c.work.out' text)
+  -- Where no count rose and it is told what the files hold, that comes which is due, unless there was no memory.
+  pub exact : NoFault c → IsSome c.work.files.held → (due : Status) (text : List ℕ) → IsDueFor c.work due text → (status ≡ due) ⊎ (status ≡ Memory)
+  -- Where no text is read, that comes which is due, whatever the files tell, unless the note can't be written.
+  pub by_words : ¬ Rose c.notes c.notes' → ¬ ReadsTexts c.work → (due : Status) (text : List ℕ) → IsDueFor c.work due text → status ≡ due
+
+-- A call ends so: with what is due, then its note, and so each answer has its cause.
+pub record IsAnswered (c : Call) (status : Status) : Type 0 where
+  pub due : Status
+  pub performed : IsPerformed c.work due
+  pub noted : Noted c due status
+  pub answers : Answers c status

@@ -1,51 +1,86 @@
--- How a call ends, what is written, and the note.
-use Rattle.std.specs.Prelude.{◌≡◌, ℕ, List, [], ◌∷◌, ◌++◌, ◌⊎◌, codes, IfSome, IsSomeAnd}
-use Rattle.std.specs.FinMap as map
+-- How a call ends: what is due after reading and writing, and then the note.
+use Rattle.std.specs.Prelude.{◌≡◌, ℕ, ◌+◌, Bool, false, List, length}
 use Rattle.std.specs.declared.option.Option.{Option}
-use Rattle.std.specs.declared.option.Option.TheVariants.{None}
+use Rattle.std.specs.declared.option.Option.TheVariants.{Some, None}
 use Rattle.rml_io.specs.Counts.{Rose}
-use Rattle.rml_io.specs.Files.{Held, and_name}
 use Rattle.rml_io.specs.Sink.{and_bytes, TookFront}
+use Rattle.rml_stages.specs.declared.refusal.Which.TheVariants as which
+use Rattle.rml_words.specs.Forms.{Asks}
 use Rattle.rml_top.specs.declared.status.Status.{Status}
-use Rattle.rml_top.specs.declared.status.Status.TheVariants.{Done, ReadFault, WriteFault, Memory, Unbuilt}
-use Rattle.rml_top.specs.Text.{IsText}
+use Rattle.rml_top.specs.declared.status.Status.TheVariants.{Done, ReadFault, WriteFault, Limit, Memory}
+use Rattle.rml_top.specs.Due.{IsDue}
+use Rattle.rml_top.specs.Line.{Reads, names_of, text_names, is_run}
+use Rattle.rml_top.specs.Notes.{note_of, IsNoted}
+use Rattle.rml_top.specs.Sources.{Seen, IsReached, HaveRead, HaveReadSome, RoseBy}
 
--- These bytes were run so: what was written, and the count of faults of the sink.
-abbrev pub Prints : List ℕ → Option (List ℕ) → Option (List ℕ) → ℕ → ℕ → Status → Type 0
--- the whole of what a text of the first form prints
-Prints bytes before after faults faults' (Done k) = (k ≡ None) × (text : List ℕ) × IsText bytes text × (after ≡ and_bytes before text)
--- a front of what a text of the first form prints
-Prints bytes before after faults faults' WriteFault = Rose faults faults' × (text : List ℕ) × IsText bytes text × TookFront before after text
-Prints bytes before after faults faults' Memory = after ≡ before
-Prints bytes before after faults faults' Unbuilt = ((text : List ℕ) → ¬ IsText bytes text) × (after ≡ before)
-Prints bytes before after faults faults' (ReadFault k) = ⊥
+-- What is seen of a call from outside, but for its note: its words and what they ask for, and the files, and the output with its
+-- count of faults, before and after it.
+pub record Work : Type 0 where
+  pub words : List (List ℕ)
+  pub line : Option Asks
+  pub files : Seen
+  pub files' : Seen
+  pub out : Option (List ℕ)
+  pub out' : Option (List ℕ)
+  pub writes : ℕ
+  pub writes' : ℕ
 
--- where it is told what the files hold, they hold bytes under the name of which this is so
-abbrev pub Holds : Option Held → List ℕ → (List ℕ → Type 0) → Type 0
-Holds held file P = IfSome held (λ files. IsSomeAnd (map.get files file) P)
+-- the words are a line whose texts are read
+abbrev pub ReadsTexts : Work → Type 0
+ReadsTexts w = (asks : Asks) × (w.line ≡ Some asks) × Reads asks
 
--- `run FILE` ends so, before the note: what was written, and the counts of faults of the files and of the sink.
-abbrev pub Ends : Option Held → List ℕ → Option (List ℕ) → Option (List ℕ) → ℕ → ℕ → ℕ → ℕ → Status → Type 0
-Ends held file before after reads reads' writes writes' (Done k) = (k ≡ None) × (text : List ℕ) × Holds held file (λ bytes. IsText bytes text) × (after ≡ and_bytes before text)
-Ends held file before after reads reads' writes writes' (ReadFault k) = (k ≡ 0) × Rose reads reads' × (after ≡ before)
-Ends held file before after reads reads' writes writes' WriteFault = Rose writes writes' × (text : List ℕ) × Holds held file (λ bytes. IsText bytes text) × TookFront before after text
-Ends held file before after reads reads' writes writes' Memory = after ≡ before
-Ends held file before after reads reads' writes writes' Unbuilt = Holds held file (λ bytes. (text : List ℕ) → ¬ IsText bytes text) × (after ≡ before)
+-- This is due, and this was written to the output.
+abbrev pub Ends : Work → Status → Type 0
+-- a read failed
+Ends w (ReadFault k) = (asks : Asks) × (w.line ≡ Some asks) × Reads asks × IsReached w.files.held (text_names asks) k × Rose w.files.faults w.files'.faults × (w.out' ≡ w.out)
+-- a write of what is due failed
+Ends w WriteFault = Rose w.writes w.writes' × (text : List ℕ) × IsDue w.files.held w.words w.line (Done None) text × TookFront w.out w.out' text
+Ends w Memory = ReadsTexts w × (w.out' ≡ w.out)
+Ends w status = (text : List ℕ) × IsDue w.files.held w.words w.line status text × (w.out' ≡ and_bytes w.out text)
 
--- the name of the file is the next that was read, or there was no memory
-abbrev pub Asked : Option (List (List ℕ)) → Option (List (List ℕ)) → List ℕ → Status → Type 0
-Asked before after file status = (after ≡ and_name before file) ⊎ ((status ≡ Memory) × (after ≡ before))
+-- how many of so many files were read at such an end
+abbrev pub read_by : ℕ → Status → ℕ
+read_by names (ReadFault k) = k + 1
+read_by names (Limit (Some place) which.Bytes) = place.text + 1
+read_by names (Limit (Some place) which.Total) = place.text + 1
+read_by names (Limit None passed) = 0
+read_by names status = names
 
--- the note, with its line end
-abbrev pub note_of : List ℕ → Status → List ℕ
-note_of file (Done k) = codes "yes\n"
-note_of file (ReadFault k) = file ++ codes ": read fault\n"
-note_of file WriteFault = codes "write fault\n"
-note_of file Memory = codes "memory\n"
-note_of file Unbuilt = codes "unbuilt\n"
+-- What was read by such an end.
+abbrev pub Counts : Work → Status → Type 0
+Counts w Memory = HaveReadSome (names_of w.line) w.files w.files'
+Counts w status = HaveRead (names_of w.line) (read_by (length (names_of w.line)) status) w.files w.files'
 
--- The note of the status that is due was written, or a write of it failed, and then that is the status.
-abbrev pub Noted : Option (List ℕ) → Option (List ℕ) → ℕ → ℕ → List ℕ → Status → Status → Type 0
-Noted before after faults faults' text due status =
-    ((status ≡ due) × (after ≡ and_bytes before text))
-    ⊎ ((status ≡ WriteFault) × Rose faults faults' × TookFront before after text)
+-- Where too many bytes were met, so many were taken.
+abbrev pub Takes : Work → Status → Type 0
+Takes w (Limit (Some place) which.Bytes) = RoseBy 1048577 w.files.taken w.files'.taken
+Takes w (Limit (Some place) which.Total) = RoseBy 4194305 w.files.taken w.files'.taken
+Takes w status = Unit {0}
+
+-- All that is so of a call before its note.
+pub record IsPerformed (w : Work) (due : Status) : Type 0 where
+  pub ends : Ends w due
+  pub counts : Counts w due
+  pub takes : Takes w due
+
+-- ---- the note
+
+-- What is seen of a call: what was done, and the sink of the note with its count of faults, before and after it.
+pub record Call : Type 0 where
+  pub work : Work
+  pub note : Option (List ℕ)
+  pub note' : Option (List ℕ)
+  pub notes : ℕ
+  pub notes' : ℕ
+
+abbrev pub notes_run : Option Asks → Bool
+notes_run None = false
+notes_run (Some asks) = is_run asks
+
+-- the note of a status, for what the words ask for
+abbrev pub note_for : Option Asks → Status → List ℕ
+note_for line status = note_of (names_of line) (notes_run line) status
+
+-- the note of the status that is due was written, or could not be
+abbrev pub Noted : Call → Status → Status → Type 0
+Noted c due status = IsNoted c.note c.note' c.notes c.notes' (note_for c.work.line due) due status

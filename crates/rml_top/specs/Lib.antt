@@ -1,7 +1,14 @@
 pub mod FirstForm
 pub mod Matching
-pub mod Words
 pub mod Text
+pub mod Code
+pub mod Line
+pub mod Names
+pub mod Sources
+pub mod Reading
+pub mod Due
+pub mod Notes
+pub mod Performed
+pub mod Stops
 pub mod Ends
 pub mod Answers
-pub mod Code

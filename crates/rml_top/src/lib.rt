@@ -1,13 +1,16 @@
 //! The top call: the words of a command line, the files that it names, and what is written.
 #![tactic(auto)]
 
+mod files;
 mod first_form;
+mod line;
 mod note;
-mod run;
+mod perform;
+mod sources;
 mod status;
 mod text;
+mod texts;
 mod top;
-mod words;
 
 pub use status::Status;
 pub use top::rmlc;

@@ -1,16 +1,25 @@
 //! How a call of the program ends.
 
-ghost use Rattle.std.specs.Prelude.{◌≡◌, List, ℕ};
+ghost use Rattle.std.specs.Prelude.{◌≡◌};
 
-/// The end of a call. A number of a file is its place among the files of the line, from 0.
+use rml_base::Place;
+use rml_stages::{Kind, Which};
+
+/// The end of a call. A number of a file, as in a place, is its number among the texts of the line, from 0.
 #[derive(Clone, Copy, Debug, PartialEq, Eq)]
 pub enum Status {
     /// All was done. `main` gave this integer, if it gives one.
     Done(Option<i64>),
+    /// The words are of no form.
+    Usage,
     /// The file could not be read.
     ReadFault(u32),
     /// A write failed.
     WriteFault,
+    /// What is wrong with a text, and where.
+    Syntax(Place, Kind),
+    /// A quantity is over its limit, and where, if that is in a text.
+    Limit(Option<Place>, Which),
     /// There was no memory.
     Memory,
     /// What the words ask for is not built yet.
@@ -26,8 +35,11 @@ impl Status {
     {
         match self {
             Status::Done(_) => 0,
+            Status::Usage => 2,
             Status::ReadFault(_) => 3,
             Status::WriteFault => 4,
+            Status::Syntax(_, _) => 5,
+            Status::Limit(_, _) => 8,
             Status::Memory => 11,
             Status::Unbuilt => 13,
         }

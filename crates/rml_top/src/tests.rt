@@ -1,4 +1,4 @@
-//! The top call over files and sinks in memory: what is written and answered, byte for byte.
+//! The top call over files and sinks in memory: what is read, written and answered, byte for byte.
 
 use super::*;
 use rml_base::limits;
@@ -7,82 +7,31 @@ use std::alloc::Global;
 use std::process::Abort;
 use std::test::Fail;
 
-const HELLO: &str = "module m:
-  relation main: string list => ()
-end
-relation main: string list => () =
-  rule print \"hi\\n\"
-       --
-       main(_)
-end
-";
+mod first_form;
+mod limits_passed;
+mod order;
+mod rows;
 
-/// Texts of the first form, and what they print.
-const PRINTED: [(&str, &str); 7] = [
-    (HELLO, "hi\n"),
-    (
-        "module m:relation main:string list=>()end relation main=rule print(\"a\")&print\"b\"--main(_)end",
-        "ab",
-    ),
-    (
-        "module x'1_:\r\n\trelation main : string list => ( )\r\nend\r\nrelation main = rule print \"\"\r\n-------- main ( _ )\r\nend",
-        "",
-    ),
-    (
-        "module m: relation main: string list => () end relation main: string list => () = rule print \"\\\\n\\\"(*--\\n~ \" & print(\"c\") & print \"c\" -- main(_) end",
-        "\\n\"(*--\n~ cc",
-    ),
-    (
-        "module main: relation main: string list => () end relation main = rule print \"print\" -- main(_) end",
-        "print",
-    ),
-    (
-        "module endx: relation main: string list => () end relation main = rule print \"1\"--main(_)end",
-        "1",
-    ),
-    (
-        "module Rml: relation main: string list => () end relation main = rule print \"2\" --- main(_) end",
-        "2",
-    ),
-];
+/// A line of words over files, and what it comes to. The read and the writes of these numbers fail; the output takes so
+/// many bytes.
+#[derive(Clone, Copy)]
+struct Line<'a> {
+    words: &'a [&'a str],
+    files: &'a [(&'a str, &'a [u8])],
+    failing_read: u64,
+    failing_out: u64,
+    failing_note: u64,
+    room: usize,
+}
 
-/// Texts that are none of the first form.
-const UNBUILT: [&str; 22] = [
-    "",
-    "module m",
-    "module rml: relation main: string list => () end relation main = rule print \"a\" -- main(_) end",
-    "module end: relation main: string list => () end relation main = rule print \"a\" -- main(_) end",
-    "module _: relation main: string list => () end relation main = rule print \"a\" -- main(_) end",
-    "module m: (* c *) relation main: string list => () end relation main = rule print \"a\" -- main(_) end",
-    "module m: relation main: string list => () end relation main = rule print \"a\" -- main(_) end (*",
-    "module m: relation main: string list => () end relation main = rule print \"\\t\" -- main(_) end",
-    "module m: relation main: string list => () end relation main = rule print \"\\065\" -- main(_) end",
-    "module m: relation main: string list => () end relation main = rule print \"\u{e9}\" -- main(_) end",
-    "module m: relation main: string list => () end relation main = rule print \"a -- main(_) end",
-    "module m: relation main: string list => () end relation main = rule print \"a\" - main(_) end",
-    "module m: relation main: string list => () end relation main = rule print \"a\" -- main(_) end end",
-    "module m: relation main: string list => () end relation main = rule print \"a\" -- main(_)",
-    "module m: relation main: string list => () end relation main = rule print \"a\" -- main(x) end",
-    "module m: relation main: string list => () end relation main = rule print \"a\" -- main() end",
-    "module m: relation main: string list => int end relation main = rule print \"a\" -- main(_) end",
-    "module m: relation main: string list => () end relation main = rule print x -- main(_) end",
-    "module m: relation main: string list => () end relation main = rule -- main(_) end",
-    "module m: relation main: string list => () end relation main = rule print \"a\" & -- main(_) end",
-    "module m: relation main: string list => () end relation main = rule print((\"a\")) -- main(_) end",
-    "module m: relation main: string list => () end relation main = axiom main(_) end",
-];
-
-/// Other words, the note, and the status.
-const LINES: [(&[&str], &str, u8); 8] = [
-    (&[], "unbuilt\n", 13),
-    (&["run"], "unbuilt\n", 13),
-    (&["run", ""], "unbuilt\n", 13),
-    (&["run", "--x"], "unbuilt\n", 13),
-    (&["run", "m.rml", "m.rml"], "unbuilt\n", 13),
-    (&["check", "m.rml"], "unbuilt\n", 13),
-    (&["run", "n.rml"], "n.rml: read fault\n", 3),
-    (&["run", "-"], "-: read fault\n", 3),
-];
+/// What was written to both sinks, the status, and how many files were asked for.
+#[derive(Clone, Copy)]
+struct Wanted<'a> {
+    out: &'a [u8],
+    note: &'a [u8],
+    code: u8,
+    asked: usize,
+}
 
 fn words_of(alloc: Global, words: &[&str]) -> Result<Vec<String>, Fail> {
     let mut all = Vec::new(alloc);
@@ -92,167 +41,49 @@ fn words_of(alloc: Global, words: &[&str]) -> Result<Vec<String>, Fail> {
     Ok(all)
 }
 
-/// A line of words where `m.rml` has this text, over sinks that take this much and fail at the calls that are given.
-#[derive(Drop)]
-struct Line<'a> {
-    words: &'a [&'a str],
-    text: &'a [u8],
-    room: usize,
-    failing_out: u64,
-    failing_note: u64,
+fn files_of(alloc: Global, line: &Line) -> Result<MemFiles, Fail> {
+    let mut files = MemFiles::new(alloc);
+    for (name, bytes) in line.files {
+        files.add(name, bytes)?;
+    }
+    files.fail_at(line.failing_read)?;
+    Ok(files)
 }
 
-/// What was written to both sinks, and the status.
-#[derive(Drop)]
-struct Written<'a> {
-    out: &'a [u8],
-    note: &'a [u8],
-    code: u8,
-}
-
-fn expect(rt: &(impl Abort + AllocGlobal), line: &Line, wanted: &Written) -> Result<(), Fail> {
+fn expect(rt: &(impl Abort + AllocGlobal), line: &Line, wanted: &Wanted) -> Result<(), Fail> {
     let alloc = rt.alloc();
     let words = words_of(alloc, line.words)?;
-    let mut files = MemFiles::new(alloc);
-    files.add("m.rml", line.text)?;
+    let mut files = files_of(alloc, line)?;
     let mut out = MemSink::with_room(alloc, line.room)?;
     let mut note = MemSink::with_room(alloc, 100)?;
     out.fail_at(line.failing_out)?;
     note.fail_at(line.failing_note)?;
     let status = rmlc(alloc, words.as_slice(), &mut files, &mut out, &mut note);
-    assert_eq!(rt; out.bytes(), wanted.out);
     assert_eq!(rt; note.bytes(), wanted.note);
+    assert_eq!(rt; out.bytes(), wanted.out);
     assert_eq!(rt; status.code(), wanted.code);
+    assert_eq!(rt; files.asked().len(), wanted.asked);
     Ok(())
 }
 
-/// The line `run m.rml`, where nothing fails.
-fn run(text: &[u8]) -> Line<'_> {
+/// A line where nothing fails.
+fn calm<'a>(words: &'a [&'a str], files: &'a [(&'a str, &'a [u8])]) -> Line<'a> {
     Line {
-        words: &["run", "m.rml"],
-        text,
-        room: 100,
+        words,
+        files,
+        failing_read: 0,
         failing_out: 0,
         failing_note: 0,
+        room: 1_000,
     }
 }
 
-#[test]
-fn texts_of_the_first_form_are_printed_and_no_others(rt: HostRuntime) -> Result<(), Fail> {
-    for (text, out) in &PRINTED {
-        let wanted = Written {
-            out: out.as_bytes(),
-            note: b"yes\n",
-            code: 0,
-        };
-        expect(&rt, &run(text.as_bytes()), &wanted)?;
+/// A line that ends with nothing but a note.
+fn noted<'a>(note: &'a str, code: u8, asked: usize) -> Wanted<'a> {
+    Wanted {
+        out: b"",
+        note: note.as_bytes(),
+        code,
+        asked,
     }
-    for text in &UNBUILT {
-        let wanted = Written {
-            out: b"",
-            note: b"unbuilt\n",
-            code: 13,
-        };
-        expect(&rt, &run(text.as_bytes()), &wanted)?;
-    }
-    for (words, note, code) in &LINES {
-        let line = Line {
-            words,
-            ..run(HELLO.as_bytes())
-        };
-        expect(
-            &rt,
-            &line,
-            &Written {
-                out: b"",
-                note: note.as_bytes(),
-                code: *code,
-            },
-        )?;
-    }
-    Ok(())
-}
-
-#[test]
-fn a_failed_write_leaves_a_front(rt: HostRuntime) -> Result<(), Fail> {
-    let fault = b"write fault\n".as_slice();
-    let hello = HELLO.as_bytes();
-    let full = Line {
-        room: 2,
-        ..run(hello)
-    };
-    expect(
-        &rt,
-        &full,
-        &Written {
-            out: b"hi",
-            note: fault,
-            code: 4,
-        },
-    )?;
-    let failing = Line {
-        failing_out: 1,
-        ..run(hello)
-    };
-    expect(
-        &rt,
-        &failing,
-        &Written {
-            out: b"",
-            note: fault,
-            code: 4,
-        },
-    )?;
-    let no_note = Line {
-        failing_note: 1,
-        ..run(hello)
-    };
-    expect(
-        &rt,
-        &no_note,
-        &Written {
-            out: b"hi\n",
-            note: b"",
-            code: 4,
-        },
-    )?;
-    let half_note = Line {
-        words: &["run", "n.rml"],
-        failing_note: 2,
-        ..run(hello)
-    };
-    expect(
-        &rt,
-        &half_note,
-        &Written {
-            out: b"",
-            note: b"n.rml",
-            code: 4,
-        },
-    )
-}
-
-#[test]
-fn a_text_has_at_most_a_mebibyte(rt: HostRuntime) -> Result<(), Fail> {
-    let mut text = Vec::from_slice(rt.alloc(), HELLO.as_bytes())?;
-    text.resize(limits::BYTES, b' ')?;
-    expect(
-        &rt,
-        &run(text.as_slice()),
-        &Written {
-            out: b"hi\n",
-            note: b"yes\n",
-            code: 0,
-        },
-    )?;
-    text.push(b' ')?;
-    expect(
-        &rt,
-        &run(text.as_slice()),
-        &Written {
-            out: b"",
-            note: b"unbuilt\n",
-            code: 13,
-        },
-    )
 }

@@ -1,23 +1,27 @@
 //! The top call, which does all that the program does.
 
-ghost use Rattle.std.specs.Prelude.{◌≡◌, ◌≤◌, [], map, string_bytes, IfSome, IfNone};
-ghost use Rattle.rml_io.specs.Counts.{raised};
-ghost use Rattle.rml_top.specs.Answers.{Answers};
-ghost use Rattle.rml_top.specs.Ends.{Asked, Ends, Noted, note_of};
-ghost use Rattle.rml_top.specs.Words.{run_file};
-ghost use Rattle.rml_top.specs.declared.status.Status.{Status};
-ghost use Rattle.rml_top.specs.declared.status.Status.TheVariants.{Unbuilt};
+ghost use Rattle.std.specs.Prelude.{◌≡◌, ◌≤◌, ℤ, false};
+ghost use Rattle.std.specs.declared.option.Option.{Option};
+ghost use Rattle.rml_words.specs.Forms.{Asks, IsLine};
+ghost use Rattle.rml_words.specs.View.{words_of};
+ghost use Rattle.rml_top.specs.Answers.{IsAnswered};
+ghost use Rattle.rml_top.specs.Line.{is_run, Means, Reads};
+ghost use Rattle.rml_top.specs.declared.status.Status.TheVariants.{Done};
 
+use crate::files::FileNames;
+use crate::line::{is_run, text_names};
 use crate::note::write_note;
+use crate::perform::perform;
 use crate::status::Status;
-use crate::{run, words};
 use rml_io::{Files, Sink};
+use rml_words::read_words;
 use std::alloc::Global;
 
 /// Does what the words ask for, which are those of the command line without the program's name: it reads from `files`,
 /// writes to `out`, and ends with a line on `note`.
 ///
-/// Built is `run FILE` for a text of the first form. Every other line of words, and every other text, is `Unbuilt`.
+/// Built are `show tokens`, `show tree`, and `run FILE` for a text of the first form. Every other line is refused as far as
+/// its words and texts are, and then it is `Unbuilt`.
 pub fn rmlc<F: Files, O: Sink, N: Sink>(
     alloc: Global,
     words: &[String],
@@ -25,43 +29,36 @@ pub fn rmlc<F: Files, O: Sink, N: Sink>(
     out: &mut O,
     note: &mut N,
 ) -> Status
-    // Other words read nothing and write the note alone.
-    ensures other_words { IfNone (run_file (map string_bytes words.now))
-        ((files.new ≡ files.old) × (out.new ≡ out.old)
-        × Noted (N.written note.old) (N.written note.new) (N.faults note.old) (N.faults note.new) (note_of [] Unbuilt) Unbuilt result) }
-
-    // What is due after the reading and writing, and then the note.
-    ensures run { IfSome (run_file (map string_bytes words.now)) (λ file. (due : Status)
-        × Asked (F.asked files.old) (F.asked files.new) file due
-        × Ends (F.held files.old) file (O.written out.old) (O.written out.new) (F.faults files.old) (F.faults files.new) (O.faults out.old) (O.faults out.new) due
-        × Noted (N.written note.old) (N.written note.new) (N.faults note.old) (N.faults note.new) (note_of file due) due result) }
-    ensures reads { IfSome (run_file (map string_bytes words.now)) (λ file.
-        (F.calls files.new ≡ raised (F.calls files.old) 1) × (F.held files.new ≡ F.held files.old)) }
-
-    // Each answer by itself.
-    ensures answers { Answers (record {
-      file = run_file (map string_bytes words.now);
-      held = F.held files.old;
-      out = O.written out.old;
-      out' = O.written out.new;
+    // What the words ask for, what is due after the reading and writing, then the note, and each answer by itself.
+    ensures answered { (line : Option Asks) × Means (words_of words.now) line × IsAnswered (record {
+      work = record {
+        words = words_of words.now;
+        line = line;
+        files = record { held = F.held files.old; asked = F.asked files.old; faults = F.faults files.old; calls = F.calls files.old; taken = F.taken files.old };
+        files' = record { held = F.held files.new; asked = F.asked files.new; faults = F.faults files.new; calls = F.calls files.new; taken = F.taken files.new };
+        out = O.written out.old;
+        out' = O.written out.new;
+        writes = O.faults out.old;
+        writes' = O.faults out.new;
+      };
       note = N.written note.old;
       note' = N.written note.new;
-      reads = F.faults files.old;
-      reads' = F.faults files.new;
-      writes = O.faults out.old;
-      writes' = O.faults out.new;
       notes = N.faults note.old;
       notes' = N.faults note.new;
     }) result }
-
-    // Counts never fall.
+    // Files of which no text is read are left alone.
+    ensures unread { ((asks : Asks) → IsLine (words_of words.now) asks → ¬ Reads asks) → files.new ≡ files.old }
+    // What is no run leaves the note alone, where all was done.
+    ensures silent { (asks : Asks) → IsLine (words_of words.now) asks → is_run asks ≡ false → (k : Option ℤ) → result ≡ Done k → note.new ≡ note.old }
+    // What is held stays, and counts never fall.
+    ensures held { F.held files.new ≡ F.held files.old }
     ensures later { (F.faults files.old ≤ F.faults files.new) × (O.faults out.old ≤ O.faults out.new) × (N.faults note.old ≤ N.faults note.new) }
 {
-    match words::run_file(words) {
-        Some(file) => {
-            let due = run::run_file(alloc, file, files, out);
-            write_note(note, file, due)
+    match read_words(words) {
+        None => write_note(note, &FileNames::Each(&[]), false, Status::Usage),
+        Some(command) => {
+            let due = perform(alloc, words, &command, files, out);
+            write_note(note, &text_names(&command), is_run(&command), due)
         }
-        None => write_note(note, "", Status::Unbuilt),
     }
 }

@@ -1,9 +1,8 @@
-use Rattle.std.proofs.Common.{◌≡◌, ◌∙◌, sym, ap, ◌<◌, ◌≤◌, ◌+◌, ◌-◌, length, drop, true, false, Option, Some, None, List, ℕ, arith, refl, rules, codes}
-use Rattle.std.specs.Borrow.{Bor}
+use Rattle.std.proofs.Common.{◌≡◌, ◌∙◌, sym, ap, true, false, Some, None, arith, refl, codes}
 use Rattle.std.specs.Option.{option_map}
-use Rattle.std.proofs.lemmas.List.{drop-map, map-append, length-map}
+use Rattle.std.proofs.lemmas.List.{map-append, length-map}
 use Rattle.rml_top.specs.FirstForm.{spelled, shown}
-use Rattle.rml_top.specs.Matching.{premise_at, next_is}
+use Rattle.rml_top.specs.Matching.{next_is}
 use Rattle.rml_top.proofs.Reading.{goes-nothing, goes-fails, goes-ends, goes-on, goes-past, read-at, rest-place, premise_at-takes}
 use Rattle.rml_top.proofs.first_form.premises_at.Goals as goal
 

@@ -1,6 +1,5 @@
-use Rattle.std.proofs.Common.{length, ◌-◌, ◌≡◌, ℕ, ◌≤◌, drop}
+use Rattle.std.proofs.Common.{length, ◌-◌}
 use Rattle.rml_top.specs.FirstForm.{spelled}
-use Rattle.rml_top.specs.Matching.{premises_at}
 use Rattle.rml_top.proofs.Reading.{Goes}
 use Rattle.rml_top.proofs.first_form.premises_at.Given as goal
 

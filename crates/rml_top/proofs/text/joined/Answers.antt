@@ -1,4 +1,4 @@
-use Rattle.std.proofs.Common.{◌∙◌, refl}
+use Rattle.std.proofs.Common.{◌∙◌}
 use Rattle.rml_top.proofs.Printing.{one-more}
 use Rattle.rml_top.proofs.text.joined.Goals as goal
 

@@ -1,6 +1,5 @@
-use Rattle.std.proofs.Common.{◌≡◌, ◌∙◌, sym, ap, arith, ◌<◌, ◌≤◌, length, refl, inl, inr}
+use Rattle.std.proofs.Common.{◌∙◌, sym, arith}
 use Rattle.std.proofs.lemmas.List.{map-append}
-use Rattle.rml_top.specs.FirstForm.{spelled}
 use Rattle.rml_top.proofs.Pieces.{no-tokens, no-piece-there, nonempty, read-blank, read-token, rest-shorter}
 use Rattle.rml_top.proofs.text.tokens.Goals as goal
 

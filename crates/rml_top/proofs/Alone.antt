@@ -1,0 +1,46 @@
+-- One text alone, and what a call over it comes to.
+use Rattle.std.proofs.Common.{◌≡◌, ℕ, List, [], ◌∷◌, length, Some, None, refl, sym, ap, subst, ◌∙◌}
+use Rattle.std.specs.Prelude.{◌≢◌, IfOk, IfErr, IfNone, Result, Ok, Err}
+use Rattle.std.specs.declared.option.Option.{Option}
+use Rattle.rml_stages.specs.Answers.{HasCause}
+use Rattle.rml_stages.specs.Reading.{IsRefused}
+use Rattle.rml_stages.specs.declared.refusal.Refusal.{Refusal}
+use Rattle.rml_stages.specs.declared.refusal.Refusal.TheVariants.{Memory}
+use Rattle.rml_top.specs.Due.{AreAccepted, Outputs, PrintsFirst, Refuses}
+use Rattle.rml_top.specs.Text.{IsText}
+use Rattle.rml_words.specs.Forms.{Asks, Run}
+
+alone : (bytes : List ℕ) (why : Refusal) → IsRefused 0 bytes [] why → Refuses (bytes ∷ []) why
+alone bytes why r = record { before = []; text = bytes; after = []; cut = refl; trees = []; new = []; read = refl; refused = r }
+
+-- a refused call over the one text refuses the texts
+pub refuses-alone : {X Y : Type 0} (texts : List (List ℕ)) (bytes : List ℕ) (P : X → Type 0) (f : X → Y) (given : Result X Refusal) (result : Result Y Refusal) → texts ≡ bytes ∷ []
+    → HasCause given P (IsRefused 0 bytes []) → IfOk given (λ x. result ≡ Ok (f x)) → IfErr given (λ why. result ≡ Err why) → IfErr result (λ why. why ≢ Memory → Refuses texts why)
+refuses-alone texts bytes P f (Ok x) result e h ok err = subst (λ r. IfErr r (λ why. why ≢ Memory → Refuses texts why)) (sym ok) tt
+refuses-alone texts bytes P f (Err why) result e h ok err =
+    subst (λ r. IfErr r (λ why. why ≢ Memory → Refuses texts why)) (sym err)
+    (λ other. subst (λ (ts : List (List ℕ)). Refuses ts why) (sym e) (alone bytes why (h other)))
+
+pub passes-on : {X Y : Type 0} (P : Refusal → Type 0) (f : X → Y) (given : Result X Refusal) (result : Result Y Refusal) → IfErr given P → IfOk given (λ x. result ≡ Ok (f x)) → IfErr given (λ why. result ≡ Err why) → IfErr result P
+passes-on P f (Ok x) result h ok err = subst (λ r. IfErr r P) (sym ok) tt
+passes-on P f (Err why) result h ok err = subst (λ r. IfErr r P) (sym err) h
+
+one-text : (texts : List (List ℕ)) (a b : List ℕ) → texts ≡ a ∷ [] → texts ≡ b ∷ [] → a ≡ b
+one-text texts a b e f = ap (λ (ts : List (List ℕ)). elim ts [ [] ↦ a | t ∷ ts ↦ t ]) (sym e ∙ f)
+
+-- a text that is none of the first form prints nothing
+pub prints-none : {X E : Type 0} (texts : List (List ℕ)) (bytes : List ℕ) (result : Result (Option X) E) → texts ≡ bytes ∷ [] → IfOk result (λ found. IfNone found ((text : List ℕ) → ¬ IsText bytes text))
+    → IfOk result (λ found. IfNone found ((out : List ℕ) → ¬ PrintsFirst texts out))
+prints-none texts bytes (Err x) e none = tt
+prints-none texts bytes (Ok (Some x)) e none = tt
+prints-none texts bytes (Ok None) e none = λ out p. none out (subst (λ (b : List ℕ). IsText b out) (one-text texts p.0 bytes p.1 e) p.2)
+
+pub no-alone : (texts : List (List ℕ)) → (length texts ≡ 1 → ⊥) → (out : List ℕ) → ¬ PrintsFirst texts out
+no-alone texts many out p = many (ap length p.1)
+
+pub run-unbuilt : {X E : Type 0} (words texts : List (List ℕ)) (asks : Asks) (cells steps : ℕ) (files arguments : List (List ℕ)) (result : Result (Option X) E) → asks ≡ Run cells steps files arguments
+    → IfOk result (λ given. IfNone given (AreAccepted texts × ((out : List ℕ) → ¬ PrintsFirst texts out)))
+    → IfOk result (λ given. IfNone given (AreAccepted texts × ((out : List ℕ) → ¬ Outputs words asks texts out)))
+run-unbuilt words texts asks cells steps files arguments (Err x) e h = tt
+run-unbuilt words texts asks cells steps files arguments (Ok (Some x)) e h = tt
+run-unbuilt words texts asks cells steps files arguments (Ok None) e h = (h.0, subst (λ (a : Asks). (out : List ℕ) → ¬ Outputs words a texts out) (sym e) (λ out o. h.1 out o.2))

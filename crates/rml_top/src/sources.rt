@@ -1,0 +1,108 @@
+//! Reads the texts of a line, file by file.
+
+ghost use Rattle.std.specs.Prelude.{◌≡◌, ◌≤◌, length, IfOk, IfErr};
+ghost use Rattle.rml_top.specs.Names.{names_in};
+ghost use Rattle.rml_top.specs.Reading.{Next, NextStopped};
+ghost use Rattle.rml_top.specs.Sources.{AreSources, Stopped};
+ghost use Rattle.rml_top.specs.declared.sources.NotRead.TheVariants.{Memory};
+
+use crate::files::FileNames;
+use rml_base::{Bytes, limits};
+use rml_io::{FileErr, Files};
+use rml_stages::Source;
+use std::alloc::{AllocError, AllocFailed, Global};
+
+/// Why the texts were not read. The numbers are those of files, from 0.
+#[derive(Clone, Copy, Debug, PartialEq, Eq, Drop)]
+pub enum NotRead {
+    /// The file could not be read.
+    Fault(u32),
+    /// The file has too many bytes.
+    Bytes(u32),
+    /// With that file, the texts have too many bytes together.
+    Total(u32),
+    Memory,
+}
+
+impl From<AllocError> for NotRead {
+    ghost from_gives = { λ _ e. e ≡ Memory };
+
+    fn from(_: AllocError) -> NotRead {
+        NotRead::Memory
+    }
+}
+
+impl<T: Drop> From<AllocFailed<T>> for NotRead {
+    ghost from_gives = { λ _ e. e ≡ Memory };
+
+    fn from(_: AllocFailed<T>) -> NotRead {
+        NotRead::Memory
+    }
+}
+
+/// The text of one file, behind others that have `before` bytes together.
+fn read_source<F: Files>(
+    alloc: Global,
+    name: &str,
+    number: u32,
+    before: usize,
+    files: &mut F,
+) -> Result<Source, NotRead>
+    requires { before ≤ 4194304 }
+    ensures next { IfOk result (λ source. Next name.now before
+        (record { held = F.held files.old; asked = F.asked files.old; faults = F.faults files.old; calls = F.calls files.old; taken = F.taken files.old })
+        (record { held = F.held files.new; asked = F.asked files.new; faults = F.faults files.new; calls = F.calls files.new; taken = F.taken files.new }) source) }
+    ensures stopped { IfErr result (NextStopped name.now number before
+        (record { held = F.held files.old; asked = F.asked files.old; faults = F.faults files.old; calls = F.calls files.old; taken = F.taken files.old })
+        (record { held = F.held files.new; asked = F.asked files.new; faults = F.faults files.new; calls = F.calls files.new; taken = F.taken files.new })) }
+    ensures held { F.held files.new ≡ F.held files.old }
+    ensures later { F.faults files.old ≤ F.faults files.new }
+{
+    match files.read(alloc, name, limits::BYTES) {
+        Ok(bytes) => {
+            if limits::TOTAL - before < bytes.len() {
+                return Err(NotRead::Total(number));
+            }
+            let name = Vec::from_slice(alloc, name.as_bytes())?;
+            Ok(Source {
+                name: Bytes::of(name),
+                bytes: Bytes::of(bytes),
+            })
+        }
+        Err(FileErr::Failed) => Err(NotRead::Fault(number)),
+        Err(FileErr::TooLong) => Err(NotRead::Bytes(number)),
+        Err(FileErr::Memory) => Err(NotRead::Memory),
+    }
+}
+
+/// The texts of the files in their order, each within the limit on bytes, and all together within theirs.
+///
+/// # Errors
+/// The first that comes, file by file: a read that fails, a file that is too long, and then a total that is too great.
+pub fn read_sources<F: Files>(
+    alloc: Global,
+    names: &FileNames,
+    files: &mut F,
+) -> Result<Vec<Source>, NotRead>
+    requires { length (names_in names.now) ≤ 64 }
+    ensures read { IfOk result (λ sources. AreSources (names_in names.now)
+        (record { held = F.held files.old; asked = F.asked files.old; faults = F.faults files.old; calls = F.calls files.old; taken = F.taken files.old })
+        (record { held = F.held files.new; asked = F.asked files.new; faults = F.faults files.new; calls = F.calls files.new; taken = F.taken files.new }) sources.items) }
+    ensures stopped { IfErr result (Stopped (names_in names.now)
+        (record { held = F.held files.old; asked = F.asked files.old; faults = F.faults files.old; calls = F.calls files.old; taken = F.taken files.old })
+        (record { held = F.held files.new; asked = F.asked files.new; faults = F.faults files.new; calls = F.calls files.new; taken = F.taken files.new })) }
+    ensures held { F.held files.new ≡ F.held files.old }
+    ensures later { F.faults files.old ≤ F.faults files.new }
+{
+    let mut sources = Vec::new(alloc);
+    let mut bytes = 0;
+    for k in 0..names.len() {
+        let source = match read_source(alloc, names.name(k), k as u32, bytes, files) {
+            Ok(source) => source,
+            Err(why) => return Err(why),
+        };
+        bytes += source.bytes.as_slice().len();
+        sources.push(source)?;
+    }
+    Ok(sources)
+}
