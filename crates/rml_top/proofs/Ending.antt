@@ -10,7 +10,7 @@ use Rattle.rml_io.proofs.Fronts.{and_bytes-nil}
 use Rattle.rml_stages.specs.declared.refusal.Kind.{Kind}
 use Rattle.rml_stages.specs.declared.refusal.Which.{Which}
 use Rattle.rml_words.specs.Forms.{Asks}
-use Rattle.rml_top.specs.Answers.{IsDueFor, IsWhole, IsRefused, IsReadFault, OutputFailed, NoteFailed, NoFault, IsAnswered}
+use Rattle.rml_top.specs.Answers.{IsDueFor, IsWhole, IsRefused, IsReadFault, OutputFailed, NoteFailed, NoFault, RunsFirstForm, IsAnswered}
 use Rattle.rml_top.specs.Due.{IsDue, usage, unbuilt_command, many_texts, many_arguments, long_text, long_texts, limit, syntax_fault, done, unbuilt}
 use Rattle.rml_top.specs.Ends.{ReadsTexts, Ends, Counts, Takes, IsPerformed, Call, Noted, note_for}
 use Rattle.rml_top.specs.Line.{Reads, text_names, names_of}
@@ -18,6 +18,7 @@ use Rattle.rml_top.specs.Notes.{name_at, with_file, IsNoted}
 use Rattle.rml_top.specs.Sources.{HaveRead}
 use Rattle.rml_top.specs.declared.status.Status.{Status}
 use Rattle.rml_top.specs.declared.status.Status.TheVariants.{Done, Usage, ReadFault, WriteFault, Syntax, Limit, Memory, Unbuilt}
+use Rattle.rml_top.proofs.FirstDue.{first-due}
 use Rattle.rml_top.proofs.Unique.{one-due}
 
 -- ---- what is due
@@ -190,6 +191,20 @@ exact c is status p noted calm told due text d =
       | inr n ↦ absurd (calm.note n.1)
     ]
 
+-- what a text of the first form prints
+first-whole : (c : Call) (text : List ℕ) → Decided c → IsDueFor c.work (Done None) text → (printed : List ℕ) → IsWhole c (Done None) printed → IsWhole c (Done None) text
+first-whole c text told d printed w =
+    subst (λ (t : List ℕ). IsWhole c (Done None) t) (one-due c.work.files.held c.work.words c.work.line (Done None) (Done None) printed text told w.due d).1 w
+
+first-form : (c : Call) (is status : Status) → IsPerformed c.work is → Noted c is status → NoFault c → IsSome c.work.files.held → (text : List ℕ) → RunsFirstForm c.work text → ((status ≡ Done None) × IsWhole c (Done None) text) ⊎ (status ≡ Memory)
+first-form c is status p noted calm told text r =
+    let d = first-due c.work text r in
+    elim (exact c is status p noted calm told (Done None) text d) [
+      | inl e ↦ (let s = done-so c None (stands c is status (Done None) p noted e (λ x. cc)) in
+          inl (e, first-whole c text (λ asks l k. told-held c.work.files.held told) d s.1 s.2))
+      | inr e ↦ inr e
+    ]
+
 worded : (c : Call) (is : Status) → Ends c.work is → ¬ ReadsTexts c.work → (due : Status) (text : List ℕ) → IsDueFor c.work due text → is ≡ due
 worded c (Done k) e none due text d = same-due c (Done k) due e.0 text (λ asks l r. absurd (none (asks, l, r))) e.1 d
 worded c Usage e none due text d = same-due c Usage due e.0 text (λ asks l r. absurd (none (asks, l, r))) e.1 d
@@ -222,6 +237,7 @@ answers c due status p n = record {
     unbuilt = λ at. unbuilt-so c (stands c due status Unbuilt p n at (λ x. cc));
     only_accepted = accepted c due p.ends;
     exact = λ calm told d text h. exact c due status p n calm told d text h;
+    first_form = λ calm told text r. first-form c due status p n calm told text r;
     by_words = λ calm none d text h. by-words c due status p n calm none d text h;
   };
 }

@@ -9,3 +9,8 @@ pub mod Turns
 pub mod Form
 pub mod Pieces
 pub mod Printing
+pub mod TokenKinds
+pub mod Fits
+pub mod Derived
+pub mod Accepted
+pub mod FirstDue

@@ -1,5 +1,5 @@
 -- The answers of the top call, one by one: when each comes, and what was read and written then.
-use Rattle.std.specs.Prelude.{◌≡◌, ℕ, ℤ, ◌+◌, List, [], ◌⊎◌, codes, IsSome}
+use Rattle.std.specs.Prelude.{◌≡◌, ℕ, ℤ, ◌+◌, true, List, [], ◌∷◌, ◌⊎◌, codes, IsSome}
 use Rattle.std.specs.declared.option.Option.{Option}
 use Rattle.std.specs.declared.option.Option.TheVariants.{None, Some}
 use Rattle.rml_base.specs.declared.place.Place.{Place}
@@ -7,14 +7,15 @@ use Rattle.rml_io.specs.Counts.{Rose}
 use Rattle.rml_io.specs.Sink.{and_bytes, TookFront}
 use Rattle.rml_stages.specs.declared.refusal.Kind.{Kind}
 use Rattle.rml_stages.specs.declared.refusal.Which.{Which}
-use Rattle.rml_words.specs.Forms.{Asks}
+use Rattle.rml_words.specs.Forms.{Asks, is_file}
 use Rattle.rml_top.specs.declared.status.Status.{Status}
 use Rattle.rml_top.specs.declared.status.Status.TheVariants.{Done, Usage, ReadFault, WriteFault, Syntax, Limit, Memory, Unbuilt}
 use Rattle.rml_top.specs.Due.{IsDue}
 use Rattle.rml_top.specs.Ends.{Work, ReadsTexts, Counts, Takes, IsPerformed, Call, Noted, note_for}
-use Rattle.rml_top.specs.Line.{Reads, text_names}
+use Rattle.rml_top.specs.Line.{Means, Reads, text_names}
 use Rattle.rml_top.specs.Notes.{name_at, with_file}
-use Rattle.rml_top.specs.Sources.{IsReached, HaveRead}
+use Rattle.rml_top.specs.Sources.{IsHeld, IsReached, HaveRead}
+use Rattle.rml_top.specs.Text.{IsText}
 
 abbrev pub IsDueFor : Work → Status → List ℕ → Type 0
 IsDueFor w status text = IsDue w.files.held w.words w.line status text
@@ -64,6 +65,17 @@ pub record NoFault (c : Call) : Type 0 where
   pub write : ¬ Rose c.work.writes c.work.writes'
   pub note : ¬ Rose c.notes c.notes'
 
+-- The words are `run FILE`, and the file holds a text of the first form, which prints this.
+pub record RunsFirstForm (w : Work) (text : List ℕ) : Type 0 where
+  pub file : List ℕ
+  pub words : w.words ≡ codes "run" ∷ file ∷ []
+  pub names_file : is_file file ≡ true
+  -- the line of the call is what its words mean, as the contract of `rmlc` says
+  pub means : Means w.words w.line
+  pub bytes : List ℕ
+  pub held : IsHeld w.files.held file bytes
+  pub prints : IsText bytes text
+
 pub record Answers (c : Call) (status : Status) : Type 0 where
   pub done : (k : Option ℤ) → status ≡ Done k → (k ≡ None) × (text : List ℕ) × IsWhole c (Done None) text
   pub usage : status ≡ Usage → (c.work.line ≡ None) × IsRefused c Usage
@@ -77,6 +89,9 @@ pub record Answers (c : Call) (status : Status) : Type 0 where
   pub only_accepted : (c.work.out' ≡ c.work.out) ⊎ ((text : List ℕ) × IsDueFor c.work (Done None) text × TookFront c.work.out c.work.out' text)
   -- Where no count rose and it is told what the files hold, that comes which is due, unless there was no memory.
   pub exact : NoFault c → IsSome c.work.files.held → (due : Status) (text : List ℕ) → IsDueFor c.work due text → (status ≡ due) ⊎ (status ≡ Memory)
+  -- Where no count rose and it is told what the files hold, a text of the first form is run and all that it prints is written,
+  -- unless there was no memory.
+  pub first_form : NoFault c → IsSome c.work.files.held → (text : List ℕ) → RunsFirstForm c.work text → ((status ≡ Done None) × IsWhole c (Done None) text) ⊎ (status ≡ Memory)
   -- Where no text is read, that comes which is due, whatever the files tell, unless the note can't be written.
   pub by_words : ¬ Rose c.notes c.notes' → ¬ ReadsTexts c.work → (due : Status) (text : List ℕ) → IsDueFor c.work due text → status ≡ due
 
