@@ -112,7 +112,7 @@ fn type_of_row(alloc: Global, row: Row) -> Result<Scheme, Memory>
 {
     let inputs = inputs(alloc, row)?;
     let outputs = outputs(alloc, row)?;
-    let scheme = Scheme::checked(vars(row), SchemeTree::Rel(inputs, outputs));
+    let scheme = Scheme::checked(alloc, vars(row), SchemeTree::Rel(inputs, outputs))?;
     Ok(scheme.unwrap())
 }
 

@@ -134,18 +134,18 @@ fn list_of(alloc: Global, item: SchemeTree) -> Result<SchemeTree, Memory> {
     Ok(SchemeTree::Named(LIST, one(alloc, item)?))
 }
 
-fn scheme(vars: u32, body: SchemeTree) -> Result<Scheme, Fail> {
-    Ok(Scheme::checked(vars, body).ok_or("a variable is free")?)
+fn scheme(alloc: Global, vars: u32, body: SchemeTree) -> Result<Scheme, Fail> {
+    Ok(Scheme::checked(alloc, vars, body)?.ok_or("a variable is free")?)
 }
 
 /// What the abstype stands for.
 fn meaning(alloc: Global, change: Change) -> Result<Scheme, Fail> {
     match change {
-        Change::MeansNoType => scheme(0, named(alloc, 99)),
-        Change::MeansListWithoutArgument => scheme(0, named(alloc, LIST)),
-        Change::MeansOverVariable => scheme(1, SchemeTree::Var(0)),
-        Change::MeansItself => scheme(0, list_of(alloc, named(alloc, 9))?),
-        _ => scheme(0, named(alloc, INT)),
+        Change::MeansNoType => scheme(alloc, 0, named(alloc, 99)),
+        Change::MeansListWithoutArgument => scheme(alloc, 0, named(alloc, LIST)),
+        Change::MeansOverVariable => scheme(alloc, 1, SchemeTree::Var(0)),
+        Change::MeansItself => scheme(alloc, 0, list_of(alloc, named(alloc, 9))?),
+        _ => scheme(alloc, 0, named(alloc, INT)),
     }
 }
 
@@ -201,7 +201,7 @@ fn con(
         name,
         of,
         arity,
-        scheme: scheme(vars, SchemeTree::Rel(inputs, outputs))?,
+        scheme: scheme(alloc, vars, SchemeTree::Rel(inputs, outputs))?,
     })
 }
 
@@ -255,7 +255,7 @@ fn val(alloc: Global, name: u32, value: RExp) -> Result<ValDef, Fail> {
         module: 25,
         name,
         place: NOWHERE,
-        scheme: scheme(0, named(alloc, INT))?,
+        scheme: scheme(alloc, 0, named(alloc, INT))?,
         value,
     })
 }
@@ -399,9 +399,9 @@ fn main_scheme(alloc: Global, change: Change) -> Result<Option<Scheme>, Fail> {
     };
     let body = SchemeTree::Rel(one(alloc, input)?, integers(alloc, 1)?);
     match change {
-        Change::MainOverVariable => Ok(Some(scheme(1, body)?)),
+        Change::MainOverVariable => Ok(Some(scheme(alloc, 1, body)?)),
         Change::MainUndeclared => Ok(None),
-        _ => Ok(Some(scheme(0, body)?)),
+        _ => Ok(Some(scheme(alloc, 0, body)?)),
     }
 }
 

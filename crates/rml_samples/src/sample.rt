@@ -132,7 +132,7 @@ fn named(alloc: Global, number: u32, params: u32) -> Result<SchemeTree, Memory> 
 }
 
 fn constant(alloc: Global, number: u32) -> Result<Scheme, Fail> {
-    Ok(Scheme::checked(0, named(alloc, number, 0)?).ok_or("a scheme")?)
+    Ok(Scheme::checked(alloc, 0, named(alloc, number, 0)?)?.ok_or("a scheme")?)
 }
 
 fn types(alloc: Global) -> Result<Items<TypeDef>, Fail> {
@@ -191,7 +191,7 @@ fn cons(alloc: Global) -> Result<Items<ConDef>, Fail> {
             name,
             of,
             arity: inputs.len() as u32,
-            scheme: Scheme::checked(params, tree).ok_or("a scheme")?,
+            scheme: Scheme::checked(alloc, params, tree)?.ok_or("a scheme")?,
         })?;
     }
     Ok(cons)
@@ -241,7 +241,7 @@ fn type_of_main(alloc: Global, gives: bool) -> Result<Scheme, Fail> {
         outputs.push(SchemeTree::Named(INT, Items::new(alloc)))?;
     }
     let tree = SchemeTree::Rel(Items::from_vec(vec![in alloc; list]?), outputs);
-    Ok(Scheme::checked(0, tree).ok_or("a scheme")?)
+    Ok(Scheme::checked(alloc, 0, tree)?.ok_or("a scheme")?)
 }
 
 /// The prelude's relations, each with a rule that does nothing, and those of the caller, the first of which is `main`.

@@ -1,8 +1,8 @@
 -- What labels say of a type: its nodes, its variables, and that no two types have the same labels.
 use Rattle.rml_base.specs.declared.memory.Memory.{Memory}
 use Rattle.std.proofs.Common.{◌≡◌, ℕ, ◌+◌, ◌<◌, ◌≤◌, List, [], ◌∷◌, ◌++◌, length, map, refl, sym, ap, ◌∙◌, arith, subst, length-append, append_assoc, take, drop, Option, Bool, true, false, Result, Ok, Err}
-use Rattle.std.specs.Prelude.{IsTrue, ◌&&◌, max, IfOk}
-use Rattle.std.specs.List.{AllByRecursion}
+use Rattle.std.specs.Prelude.{IsTrue, ◌&&◌, max, IfOk, nat_lt}
+use Rattle.std.specs.List.{AllByRecursion, list_all}
 use Rattle.std.proofs.Math.Nat.{le-max_left, le-max_right}
 use Rattle.std.proofs.lemmas.List.{append-nil}
 use borrow.Author.Tests.{lt-ltb}
@@ -16,7 +16,7 @@ use Rattle.rml_types.specs.General.{InOrder, all_of, variables_at, variables_in}
 use Rattle.rml_types.specs.Labels.{Label, all_labels, labels}
 use Rattle.rml_types.specs.Nodes.{Fits}
 use Rattle.rml_types.specs.Runs.{InScope, Ready, run}
-use Rattle.rml_types.specs.Schemes.{below_at, every, vars_below}
+use Rattle.rml_types.specs.Schemes.{below_at, every, names_below, vars_below}
 use Rattle.rml_types.specs.Spelled.{Numbered, leaves, number_of, numbers_in}
 use Rattle.rml_types.proofs.FiniteTypes.{induct-built, map-parts, nil-of, nodes-built}
 use Rattle.rml_types.proofs.Growth.{begun-ready, begun-runs}
@@ -127,6 +127,43 @@ below-by-numbers n = induct-built (BelowByNumbers n) (λ c ts fits a h. (
 
 pub named-by : (known : ℕ → Option Form) (classes : List ℕ) (ls : List Label) (count : ℕ) (body : SchemeTree) → Numbered known classes ls count → labels body ≡ ls → IsTrue (vars_below count body)
 named-by known classes ls count body n e = below-by-numbers count body (subst (λ ms. AllByRecursion (λ k. k < count) (numbers_in ms)) (sym e) (order-below 0 (numbers_in ls) count n.order))
+
+-- each variable of a type is below a number where each label is
+abbrev below-label : ℕ → Label → Bool
+below-label n l = names_below n l.0
+
+all-join : {X : Type 0} (p : X → Bool) (xs ys : List X) → list_all p (xs ++ ys) ≡ (list_all p xs && list_all p ys)
+all-join p [] ys = refl
+all-join p (x ∷ xs) ys = rw (all-join p xs ys) (and-and (p x) (list_all p xs) (list_all p ys)) where
+  and-and : (a b c : Bool) → (a && (b && c)) ≡ ((a && b) && c)
+  and-and true b c = refl
+  and-and false b c = refl
+
+below-each : (n : ℕ) (ts : List SchemeTree) → AllByRecursion (λ t. list_all (below-label n) (labels t) ≡ vars_below n t) ts → list_all (below-label n) (all_labels ts) ≡ every (map (vars_below n) ts)
+below-each n [] a = refl
+below-each n (t ∷ ts) a = all-join (below-label n) (labels t) (all_labels ts) ∙ rw (a.0, below-each n ts a.1) refl
+
+and-right : (b : Bool) → (b && true) ≡ b
+and-right true = refl
+and-right false = refl
+
+below-parts-and : (n : ℕ) (c : TypeCon) (ts : List SchemeTree) → Fits c (length ts) → vars_below n (built c ts) ≡ (every (map (vars_below n) ts) && names_below n c)
+below-parts-and n (con.Fixed k) ts fits = fold-Var Bool (below_at n) k ∙ ap (λ us. every (map (vars_below n) us) && nat_lt k n) (sym (nil-of ts fits))
+below-parts-and n (con.Named c) ts fits = fold-Named Bool (below_at n) c ts ∙ sym (and-right (every (map (vars_below n) ts)))
+below-parts-and n con.Tuple ts fits = fold-Tuple Bool (below_at n) ts ∙ sym (and-right (every (map (vars_below n) ts)))
+below-parts-and n (con.Rel k) ts fits =
+    fold-Rel Bool (below_at n) (take k ts) (drop k ts)
+    ∙ sym (all-join (λ b. b) (map (vars_below n) (take k ts)) (map (vars_below n) (drop k ts)))
+    ∙ ap every (map-parts (vars_below n) k ts)
+    ∙ sym (and-right (every (map (vars_below n) ts)))
+
+pub labels-below : (n : ℕ) (t : SchemeTree) → list_all (λ (l : Label). names_below n l.0) (labels t) ≡ vars_below n t
+labels-below n = induct-built (λ t. list_all (below-label n) (labels t) ≡ vars_below n t) (λ c ts fits a.
+    ap (list_all (below-label n)) (labels-built c ts fits)
+    ∙ all-join (below-label n) (all_labels ts) ((c, length ts) ∷ [])
+    ∙ ap (λ b. b && (names_below n c && true)) (below-each n ts a)
+    ∙ ap (λ b. every (map (vars_below n) ts) && b) (and-right (names_below n c))
+    ∙ sym (below-parts-and n c ts fits))
 
 only : {t u : SchemeTree} → t ∷ [] ≡ u ∷ [] → t ≡ u
 only e = cc

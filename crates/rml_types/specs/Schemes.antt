@@ -1,6 +1,8 @@
 -- Type trees as schemes: which variables they name, and what substituting for these gives.
-use Rattle.std.specs.Prelude.{ℕ, Bool, ◌&&◌, nat_lt, List, [], get_or}
+use Rattle.std.specs.Prelude.{ℕ, Bool, true, ◌&&◌, nat_lt, List, [], get_or}
 use Rattle.std.specs.List.{list_all}
+use Rattle.rml_types.specs.declared.form.TypeCon.{TypeCon}
+use Rattle.rml_types.specs.declared.form.TypeCon.TheVariants as con
 use Rattle.rml_types.specs.declared.tree.SchemeTree.{SchemeTree, fold-SchemeTree}
 use Rattle.rml_types.specs.declared.tree.SchemeTree.TheOpen.{SchemeTree-F}
 use Rattle.rml_types.specs.declared.tree.SchemeTree.TheVariants as tree
@@ -17,6 +19,11 @@ below_at vars (SchemeTree-F.Rel ins outs) = every ins && every outs
 -- each variable is below a number
 abbrev pub vars_below : ℕ → SchemeTree → Bool
 vars_below vars = fold-SchemeTree Bool (below_at vars)
+
+-- the same of a constructor: it is no variable, or one below the number
+abbrev pub names_below : ℕ → TypeCon → Bool
+names_below vars (con.Fixed k) = nat_lt k vars
+names_below vars _ = true
 
 -- the type without parts, which closes a list of types
 abbrev pub unit : SchemeTree

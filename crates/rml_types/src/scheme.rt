@@ -1,9 +1,13 @@
 //! Type schemes: a type whose variables stand for all types. What a substitution is, and that a scheme's instances are
 //! what its substitutions give, stands in the definitions that are named here.
 
-ghost use Rattle.std.specs.Prelude.{◌≡◌, ◌<◌, ◌&&◌, ◌↔◌, IsTrue, IsSome, IfOk, IfSome, map};
-ghost use Rattle.rml_types.specs.Schemes.{every, vars_below};
+ghost use Rattle.std.specs.Prelude.{◌≡◌, ◌<◌, ◌&&◌, ◌↔◌, IsTrue, IsSome, IfOk, IfSome, ℕ};
+ghost use Rattle.std.specs.List.{list_all};
+ghost use Rattle.rml_types.specs.declared.form.TypeCon.{TypeCon};
+ghost use Rattle.rml_types.specs.Schemes.{names_below, vars_below};
 
+use crate::form::TypeCon;
+use crate::labels::{Label, labels_of};
 use crate::tree::{SchemeTree, copy_tree, forget};
 use rml_base::Memory;
 use std::alloc::Global;
@@ -18,14 +22,20 @@ pub struct Scheme {
 
 impl Scheme {
     /// The scheme, where each variable of `body` is below `vars`.
-    pub fn checked(vars: u32, body: SchemeTree) -> Option<Scheme>
-        ensures there { IsSome result ↔ IsTrue (vars_below vars body) }
-        ensures same { IfSome result (λ s. (s.vars ≡ vars) × (s.body ≡ body)) }
+    pub fn checked(alloc: Global, vars: u32, body: SchemeTree) -> Result<Option<Scheme>, Memory>
+        ensures there { IfOk result (λ o. IsSome o ↔ IsTrue (vars_below vars body)) }
+        ensures same { IfOk result (λ o. IfSome o (λ s. (s.vars ≡ vars) × (s.body ≡ body))) }
     {
-        if are_below(vars, &body) {
-            Some(Scheme { vars, body })
-        } else {
-            None
+        match are_below(alloc, vars, &body) {
+            Ok(true) => Ok(Some(Scheme { vars, body })),
+            Ok(false) => {
+                forget(body);
+                Ok(None)
+            }
+            Err(memory) => {
+                forget(body);
+                Err(memory)
+            }
         }
     }
 
@@ -47,29 +57,32 @@ impl Drop for Scheme {
     }
 }
 
-/// Whether each variable of a type is below `vars`.
-#[cycle(variables)]
-pub fn are_below(vars: u32, tree: &SchemeTree) -> bool
-    ensures { result ≡ vars_below vars tree.now }
+/// Whether a label that is a variable is one below `vars`.
+fn is_below(vars: u32, con: TypeCon) -> bool
+    ensures { result ≡ names_below vars con }
 {
-    match tree {
-        SchemeTree::Var(k) => *k < vars,
-        SchemeTree::Named(_, args) => are_all_below(vars, args.as_slice()),
-        SchemeTree::Tuple(parts) => are_all_below(vars, parts.as_slice()),
-        SchemeTree::Rel(inputs, outputs) => {
-            are_all_below(vars, inputs.as_slice()) && are_all_below(vars, outputs.as_slice())
-        }
+    match con {
+        TypeCon::Fixed(k) => k < vars,
+        _ => true,
     }
 }
 
-#[cycle(variables)]
-fn are_all_below(vars: u32, trees: &[SchemeTree]) -> bool
-    ensures { result ≡ every (map (vars_below vars) trees.now) }
+/// Whether each label that is a variable is one below `vars`.
+fn are_labels_below(vars: u32, labels: &[Label]) -> bool
+    ensures { result ≡ list_all (λ (l : TypeCon × ℕ). names_below vars l.0) labels.now }
 {
-    for tree in trees {
-        if !are_below(vars, tree) {
+    for (con, _) in labels {
+        if !is_below(vars, *con) {
             return false;
         }
     }
     true
+}
+
+/// Whether each variable of a type is below `vars`. It goes by the type's labels, so that deep types need no deep stack.
+pub fn are_below(alloc: Global, vars: u32, tree: &SchemeTree) -> Result<bool, Memory>
+    ensures { IfOk result (λ b. b ≡ vars_below vars tree.now) }
+{
+    let labels = labels_of(alloc, tree)?;
+    Ok(are_labels_below(vars, &labels))
 }

@@ -61,7 +61,7 @@ fn inputs_are_no_outputs_deep_inside(rt: HostRuntime) -> Result<(), Fail> {
 
 #[test]
 fn instances_are_nodes_of_their_own(rt: HostRuntime) -> Result<(), Fail> {
-    let scheme = Scheme::checked(1, SchemeTree::Var(0)).ok_or("a scheme")?;
+    let scheme = Scheme::checked(rt.alloc(), 1, SchemeTree::Var(0))?.ok_or("a scheme")?;
     let mut graph = Graph::new(rt.alloc());
     let int = graph.app(INT, &[])?;
     let ints = graph.app(LIST, &[int])?;
@@ -130,16 +130,24 @@ fn wide_types_are_not_written_out(rt: HostRuntime) -> Result<(), Fail> {
     Ok(())
 }
 
-#[test]
-fn deep_types_need_no_deep_stack(rt: HostRuntime) -> Result<(), Fail> {
+/// A variable in so many tuples of one.
+fn nested(alloc: Global, depth: u32) -> Result<SchemeTree, Memory> {
     let mut tree = SchemeTree::Var(0);
-    for _ in 0..100000 {
-        let mut parts = Items::new(rt.alloc());
+    for _ in 0..depth {
+        let mut parts = Items::new(alloc);
         parts.push(tree)?;
         tree = SchemeTree::Tuple(parts);
     }
+    Ok(tree)
+}
+
+#[test]
+fn deep_types_need_no_deep_stack(rt: HostRuntime) -> Result<(), Fail> {
+    let tree = nested(rt.alloc(), 100000)?;
     let again = copy_tree(rt.alloc(), &tree)?;
-    forget(tree);
-    forget(again);
+    assert!(rt; Scheme::checked(rt.alloc(), 0, tree)?.is_none());
+    let scheme = Scheme::checked(rt.alloc(), 1, again)?.ok_or("a scheme")?;
+    let copy = scheme.copy(rt.alloc())?;
+    forget(copy_tree(rt.alloc(), &copy.body)?);
     Ok(())
 }
