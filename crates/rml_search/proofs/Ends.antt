@@ -1,6 +1,6 @@
 -- What a caller sees of a run, by what is shown of the call of `main`.
-use Rattle.std.proofs.Common.{◌≡◌, refl, append-nil}
-use Rattle.rml_base.specs.Run.{Answer as Answered, Failure, bare, seen}
+use Rattle.std.proofs.Common.{◌≡◌, ◌≢◌, refl, append-nil}
+use Rattle.rml_base.specs.Run.{Answer as Answered, Failure, Full, bare, seen}
 use Rattle.rml_base.specs.Went as base
 use Rattle.rml_base.specs.Went.{followed}
 use Rattle.rml_builtin.specs.declared.given.Answer.{Answer}
@@ -18,3 +18,9 @@ text_of_shown (base.Yes a t n) = append-nil t.text
 text_of_shown (base.No t n) = append-nil t.text
 text_of_shown (base.CutOff t) = refl
 text_of_shown (base.GoneWrong t) = refl
+
+pub never_full : (w : base.Went Answer) → (followed w (λ a m. bare (Answered (integer_in a.values))) (λ m. bare Failure)).outcome ≢ Full
+never_full (base.Yes a t n) e = absurd (cc)
+never_full (base.No t n) e = absurd (cc)
+never_full (base.CutOff t) e = absurd (cc)
+never_full (base.GoneWrong t) e = absurd (cc)

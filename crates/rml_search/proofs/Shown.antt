@@ -1,12 +1,11 @@
 -- What is shown of parts of the search that are joined, and a turn of each loop over goals and rules.
-use Rattle.std.proofs.Common.{◌≡◌, ℕ, zero, suc, ◌+◌, ◌-◌, ◌*◌, ◌<◌, List, [], ◌∷◌, ◌++◌, map, length, get_or, drop, Option, Some, refl, sym, ap, ◌∙◌, append_assoc, add-one, drop-cons, arith}
+use Rattle.std.proofs.Common.{◌≡◌, ℕ, zero, suc, ◌+◌, ◌-◌, ◌<◌, List, [], ◌∷◌, ◌++◌, map, length, get_or, drop, Option, Some, refl, sym, ap, ◌∙◌, append_assoc, add-one, drop-cons, arith}
 use Rattle.std.specs.Prelude.{slice_get}
 use Rattle.rml_base.specs.Went as base
 use Rattle.rml_base.specs.Went.{Trace, after, then_go, or_else, unless}
 use Rattle.rml_builtin.specs.declared.given.Answer.{Answer}
 use Rattle.rml_builtin.specs.Given.{Bindings}
 use Rattle.rml_resolved.specs.declared.program.Program.{Program}
-use Rattle.rml_resolved.specs.Size.{longest}
 use Rattle.rml_value.specs.declared.value.Value.{Value}
 use Rattle.rml_resolved.specs.declared.trees.RExp.{RExp}
 use Rattle.rml_resolved.specs.declared.trees.RPat.{RPat}
@@ -20,7 +19,7 @@ use Rattle.rml_search.specs.declared.state.Went.TheVariants.{Yes, No, Cut, Wrong
 use Rattle.rml_search.specs.Matching.{Env, matching}
 use Rattle.rml_search.specs.Values.{value_of}
 use Rattle.rml_search.specs.Shown.{shown, told_after, told_then, told_else, told_unless, told_step}
-use Rattle.rml_search.specs.Search.{step, RelationCalls, Called, Action, in_turn, from_match, with_value, goal_at, going, by_rule, try, rules_in, relations_to}
+use Rattle.rml_search.specs.Search.{step_weight, step, RelationCalls, Called, Action, in_turn, from_match, with_value, call, goal_at, going, by_rule, try, rules_in, relations, relations_to}
 
 pub told_append : {A : Type 0} (t u : List ℕ) (w : Went A) → told_after (t ++ u) w ≡ told_after t (told_after u w)
 told_append t u (Yes a v n) = ap (λ s. Yes a s n) (append_assoc t u v)
@@ -61,7 +60,7 @@ shown_weighed k (base.GoneWrong u) = refl
 
 pub shown_step : {A : Type 0} (p : Program) (go : ℕ → base.Went A) (n : ℕ) → shown (step p go n) ≡ told_step (λ m. shown (go m)) n
 shown_step p go zero = refl
-shown_step p go (suc n) = shown_weighed (16 * longest p.rels + 64) (go n)
+shown_step p go (suc n) = shown_weighed (step_weight p) (go n)
 
 -- with no step left
 pub shown_cut : {A : Type 0} (p : Program) (go : ℕ → base.Went A) (n : ℕ) → n ≡ 0 → shown (step p go n) ≡ Cut []
@@ -110,6 +109,11 @@ pub relations_to_some : (p : Program) (depth r : ℕ) (s : Called) (n : ℕ) →
     → relations_to p depth r s n ≡ try p (relations_to p (depth - 1)) (rules_in (slice_get p.rels r)) s n
 relations_to_some p zero r s n h = absurd (omega arith)
 relations_to_some p (suc depth) r s n h = let e : suc depth - 1 ≡ depth = omega arith in rw e refl
+
+-- a call with n steps goes no deeper than n
+pub call_by_steps : (p : Program) (r : ℕ) (s : Called) (n : ℕ) → call p (relations p) (Some r) s n ≡ call p (relations_to p n) (Some r) s n
+call_by_steps p r s zero = refl
+call_by_steps p r s (suc n) = refl
 
 -- a turn, from the text so far and a copy of the bindings
 pub try_from : (whole : Went Answer) (text : List ℕ) (p : Program) (calls : RelationCalls) (rules : List RRule) (i : ℕ) (r : RRule) (vs : List Value) (bindings own : Bindings) (n : ℕ) (w v : Went Answer)

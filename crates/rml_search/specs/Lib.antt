@@ -1,7 +1,9 @@
 pub mod Matching
 pub mod Values
 pub mod Search
+pub mod Walk
 pub mod Runs
 pub mod Growing
+pub mod Weights
 pub mod Shown
 pub mod Size

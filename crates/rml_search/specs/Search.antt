@@ -33,9 +33,13 @@ use Rattle.rml_search.specs.Values.{look, val_of, value_of, values_of}
 
 -- ---- steps
 
--- a step, which weighs by the longest rule; without one it is cut
+-- what a step weighs: by the tokens of the longest rule
+abbrev pub step_weight : Program → ℕ
+step_weight p = 16 * longest p.rels + 64
+
+-- a step, with its weight; without one it is cut
 abbrev pub step : {A : Type 0} → Program → (ℕ → Went A) → ℕ → Went A
-step p go n = take_step (λ m. after (record { text = []; made = 0; weighed = 16 * longest p.rels + 64 }) (go m)) n
+step p go n = take_step (λ m. after (record { text = []; made = 0; weighed = step_weight p }) (go m)) n
 
 -- ---- goals, over what the calls give
 
@@ -98,10 +102,13 @@ relation_of p (callee.Var x) env = option_and_then relation_in (look x env)
 relation_of p (callee.Val k) env = option_and_then relation_in (val_of p k)
 relation_of p (callee.Built k) env = None
 
--- a step, the relation on the values, and then its results
+-- a call: a step, and then the relation; what is no relation is Wrong after the step
+abbrev pub call : Program → RelationCalls → Option ℕ → Called → ℕ → Went Answer
+call p calls r s n = step p (with_value r (λ r. calls r s)) n
+
+-- a relation on values, and then its results
 abbrev pub relation_called : Program → RelationCalls → Option ℕ → List Value → List RPat → Action
-relation_called p calls r vs ps env bindings n =
-    step p (with_value r (λ r m. then_go (calls r (record { values = vs; bindings = bindings }) m) (taken p ps env))) n
+relation_called p calls r vs ps env bindings n = then_go (call p calls r (record { values = vs; bindings = bindings }) n) (taken p ps env)
 
 -- a built-in takes no step
 abbrev pub called : Program → RelationCalls → Callee → List Value → List RPat → Action
@@ -144,7 +151,7 @@ abbrev pub try : Program → RelationCalls → List RRule → Called → ℕ →
 try p calls [] s n = No untraced n
 try p calls (r ∷ rs) s n = step p (λ m. or_else (by_rule p calls r s m) (try p calls rs s)) n
 
--- ---- calls
+-- ---- relations
 
 abbrev pub rules_in : Option RelDef → List RRule
 rules_in None = []
@@ -154,10 +161,14 @@ rules_in (Some r) = r.rules
 abbrev pub relation_body : Program → RelationCalls → RelationCalls
 relation_body p calls r s n = try p calls (rules_in (slice_get p.rels r)) s n
 
--- what a relation does where calls go so deep; each call takes a step, so a depth of more than the steps is no bound
+-- what relations do where calls go so deep
 abbrev pub relations_to : Program → ℕ → RelationCalls
 relations_to p depth = calls_to (relation_body p) depth
 
+-- what relations do, by the steps alone: each call takes one, so no call goes deeper than there are steps
+abbrev pub relations : Program → RelationCalls
+relations p = calls_by_steps (relation_body p)
+
 -- the call of a relation from no bindings
 abbrev pub search_of : Program → ℕ → List Value → ℕ → Went Answer
-search_of p r vs n = step p (calls_by_steps (relation_body p) r (record { values = vs; bindings = [] })) n
+search_of p r vs n = call p (relations p) (Some r) (record { values = vs; bindings = [] }) n

@@ -2,7 +2,7 @@
 
 ghost use Rattle.std.specs.Prelude.{◌≡◌, ◌≤◌, IfOk, sum_by};
 ghost use Rattle.rml_search.specs.Size.{goals_size, program_size};
-ghost use Rattle.rml_search.specs.Search.{answer, taken as taken_by, from_match, from_built_in, relation_of, relation_called, going, going_all, called as called_by, relations_to, try, by_rule as rule_gives, search_of};
+ghost use Rattle.rml_search.specs.Search.{answer, taken as taken_by, from_match, from_built_in, relation_of, relation_called, call as call_of, going, going_all, called as called_by, relations_to, try, by_rule as rule_gives, search_of};
 ghost use Rattle.rml_search.specs.Shown.{shown, told_after, told_then};
 
 use crate::patterns::{match_each, matching};
@@ -163,9 +163,9 @@ fn relation(
     }
 }
 
-/// The call of a relation: its rules from top to bottom.
+/// A relation on values: its rules from top to bottom.
 #[cycle(search)]
-fn call(
+fn by_relation(
     alloc: Global,
     program: &Program,
     rel: u32,
@@ -416,15 +416,15 @@ fn called(
         }
         _ => {
             let rel = relation(alloc, program, callee, env.as_slice())?;
-            step_to(alloc, program, rel, args, patterns, env, bindings, n, depth)
+            called_at(alloc, program, rel, args, patterns, env, bindings, n, depth)
         }
     }
 }
 
-/// A step, and the call of a relation.
+/// A relation on values, and its results.
 #[cycle(search)]
 #[tactic(auto, using(crate::proofs::Shown::shown_rules))]
-fn step_to(
+fn called_at(
     alloc: Global,
     program: &Program,
     rel: Option<u32>,
@@ -437,40 +437,6 @@ fn step_to(
 ) -> Result<Went<After>, Memory>
     ensures { IfOk result (λ w. w ≡ shown (relation_called program.now (relations_to program.now depth) rel args.now patterns.now env bindings n)) }
 {
-    if n == 0 {
-        return Ok(Went::Cut(Items::new(alloc)));
-    }
-    match rel {
-        None => Ok(Went::Wrong(Items::new(alloc))),
-        Some(rel) => called_at(
-            alloc,
-            program,
-            rel,
-            args,
-            patterns,
-            env,
-            bindings,
-            n - 1,
-            depth,
-        ),
-    }
-}
-
-/// The call of a relation, and its results.
-#[cycle(search)]
-fn called_at(
-    alloc: Global,
-    program: &Program,
-    rel: u32,
-    args: &[Value],
-    patterns: &[RPat],
-    env: Env,
-    bindings: Bindings,
-    n: u32,
-    depth: u32,
-) -> Result<Went<After>, Memory>
-    ensures { IfOk result (λ w. w ≡ told_then (shown (relations_to program.now depth rel (record { values = args.now; bindings = bindings }) n)) (λ a m. shown (taken_by program.now patterns.now env a m))) }
-{
     match call(alloc, program, rel, args, bindings.as_slice(), n, depth)? {
         Went::Yes(given, text, m) => {
             prefixed(text, taken(alloc, program, patterns, env, given, m)?)
@@ -481,8 +447,31 @@ fn called_at(
     }
 }
 
-/// The call of a relation from no bindings, in at most `n` steps.
+/// A call: a step, and then the relation.
+#[cycle(search)]
 #[tactic(auto, using(crate::proofs::Shown::shown_rules))]
+fn call(
+    alloc: Global,
+    program: &Program,
+    rel: Option<u32>,
+    args: &[Value],
+    bindings: &[Option<Value>],
+    n: u32,
+    depth: u32,
+) -> Result<Went<Answer>, Memory>
+    ensures { IfOk result (λ w. w ≡ shown (call_of program.now (relations_to program.now depth) rel (record { values = args.now; bindings = bindings.now }) n)) }
+{
+    if n == 0 {
+        return Ok(Went::Cut(Items::new(alloc)));
+    }
+    match rel {
+        None => Ok(Went::Wrong(Items::new(alloc))),
+        Some(rel) => by_relation(alloc, program, rel, args, bindings, n - 1, depth),
+    }
+}
+
+/// The call of a relation from no bindings, in at most `n` steps.
+#[tactic(auto, using(crate::proofs::Shown::call_by_steps))]
 pub fn search_from(
     alloc: Global,
     program: &Program,
@@ -492,8 +481,5 @@ pub fn search_from(
 ) -> Result<Went<Answer>, Memory>
     ensures { IfOk result (λ w. w ≡ shown (search_of program.now rel args.now n)) }
 {
-    if n == 0 {
-        return Ok(Went::Cut(Items::new(alloc)));
-    }
-    call(alloc, program, rel, args, &[], n - 1, n)
+    call(alloc, program, Some(rel), args, &[], n, n)
 }

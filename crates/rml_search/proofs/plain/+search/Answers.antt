@@ -55,20 +55,20 @@ by_rules-loop-rule-preserved t c =
     ∙ sym (told_append c.loop-rule.text c.in-No.more rest)
     ∙ ap (λ s. told_after s rest) (sym c.in_ok-append-in-No.ensures)
 
-pub call-by_rules-requires : goal.call-by_rules-requires
-call-by_rules-requires t c =
+pub by_relation-by_rules-requires : goal.by_relation-by_rules-requires
+by_relation-by_rules-requires t c =
     let held = rw c.as_slice.ensures at c.in-Some.ensures in
     let small : sum_by goals_size c.as_slice-rules.result.now ≤ program_size c.args.program.now =
     rw c.as_slice-rules.ensures (part-le relation_size c.args.program.now.rels c.args.rel c.in-Some.def.now (sym held)) in
     (search rules, small)
 
-pub call-returns-in-None : goal.call-returns-in-None
-call-returns-in-None t c =
+pub by_relation-returns-in-None : goal.by_relation-returns-in-None
+by_relation-returns-in-None t c =
     let held = rw c.as_slice.ensures at c.in-None.ensures in
     rw (relations_to_some c.args.program.now c.args.depth c.args.rel (record { values = c.args.args.now; bindings = c.args.bindings.now }) c.args.n (omega arith), ← held, c.new-in-None.ensures) refl
 
-pub call-returns-in-Some : goal.call-returns-in-Some
-call-returns-in-Some t c =
+pub by_relation-returns-in-Some : goal.by_relation-returns-in-Some
+by_relation-returns-in-Some t c =
     let held = rw c.as_slice.ensures at c.in-Some.ensures in
     let by = rw c.as_slice-rules.ensures at c.by_rules.ensures in
     rw (relations_to_some c.args.program.now c.args.depth c.args.rel (record { values = c.args.args.now; bindings = c.args.bindings.now }) c.args.n (omega arith), ← held) by

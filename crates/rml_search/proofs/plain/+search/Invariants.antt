@@ -10,8 +10,8 @@ use Rattle.rml_search.proofs.plain.+search.Given as goal
 abbrev room : Program → ℕ
 room p = 2 * program_size p + 9
 
-abbrev pub decreases-call : goal.decreases-call
-decreases-call l = l.depth * room l.program.now
+abbrev pub decreases-by_relation : goal.decreases-by_relation
+decreases-by_relation l = l.depth * room l.program.now
 
 abbrev pub decreases-by_rules : goal.decreases-by_rules
 decreases-by_rules l = l.depth * room l.program.now + 2 * program_size l.program.now + 8
@@ -31,11 +31,11 @@ decreases-go l = l.depth * room l.program.now + 2 * goal_size l.goal.now + 4
 abbrev pub decreases-called : goal.decreases-called
 decreases-called l = l.depth * room l.program.now + 3
 
-abbrev pub decreases-step_to : goal.decreases-step_to
-decreases-step_to l = l.depth * room l.program.now + 2
-
 abbrev pub decreases-called_at : goal.decreases-called_at
-decreases-called_at l = l.depth * room l.program.now + 1
+decreases-called_at l = l.depth * room l.program.now + 2
+
+abbrev pub decreases-call : goal.decreases-call
+decreases-call l = l.depth * room l.program.now + 1
 
 abbrev pub invariant-by_rules-loop-rule : goal.invariant-by_rules-loop-rule
 invariant-by_rules-loop-rule l =
