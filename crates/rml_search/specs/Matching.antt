@@ -67,27 +67,16 @@ abbrev pub match_tuple_at : List Matcher → Value-F Value → Env → Matched
 match_tuple_at ps (Value-F.Tuple vs) env = match_all ps vs env
 match_tuple_at ps _ env = Wrong
 
--- a head and a tail
-abbrev pub match_cons_at : Matcher → Matcher → Value-F Value → Env → Matched
-match_cons_at p q (Value-F.Con d (x ∷ xs ∷ [])) env = if d == CONS then then_match (p x env) (q xs) else No
-match_cons_at p q (Value-F.Con d vs) env = if d == CONS then Wrong else No
-match_cons_at p q _ env = Wrong
-
-abbrev pub match_nil_at : Value-F Value → Env → Matched
-match_nil_at (Value-F.Con d []) env = if d == NIL then Yes env else No
-match_nil_at (Value-F.Con d (x ∷ vs)) env = if d == NIL then Wrong else No
-match_nil_at _ env = Wrong
-
--- `[..]`: each item, and then the end
+-- `[..]` stands for its cells: `::` of each item and what comes after it, and `[]` at the end
 abbrev pub match_list : List Matcher → Matcher
-match_list [] v env = match_nil_at (out-Value v) env
-match_list (p ∷ ps) v env = match_cons_at p (match_list ps) (out-Value v) env
+match_list [] v env = match_con NIL [] v env
+match_list (p ∷ ps) v env = match_con CONS (p ∷ match_list ps ∷ []) v env
 
 -- a chain of `::`, whose last item is the tail
 abbrev pub match_chain : List Matcher → Matcher
 match_chain [] v env = Wrong
 match_chain (p ∷ []) v env = p v env
-match_chain (p ∷ q ∷ ps) v env = match_cons_at p (match_chain (q ∷ ps)) (out-Value v) env
+match_chain (p ∷ q ∷ ps) v env = match_con CONS (p ∷ match_chain (q ∷ ps) ∷ []) v env
 
 abbrev pub match_at : List (List ℕ) → RPat-F Matcher → Matcher
 match_at names RPat-F.Any v env = Yes env
@@ -109,8 +98,8 @@ matching_all names ps vs env = match_all (map (matching names) ps) vs env
 -- ---- how a list is taken apart
 
 abbrev pub parts_at : Value-F Value → Parts
-parts_at (Value-F.Con d (x ∷ xs ∷ [])) = if d == CONS then HeadAndTail else Other
-parts_at (Value-F.Con d vs) = if d == CONS then parts.Wrong else Other
+parts_at (Value-F.Con d (x ∷ xs ∷ [])) = if CONS == d then HeadAndTail else Other
+parts_at (Value-F.Con d vs) = if CONS == d then parts.Wrong else Other
 parts_at _ = parts.Wrong
 
 abbrev pub head_at : Value → Value-F Value → Value

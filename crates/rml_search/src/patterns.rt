@@ -1,8 +1,9 @@
 //! Patterns against values.
 
-ghost use Rattle.std.specs.Prelude.{◌≡◌, IfOk, map};
+ghost use Rattle.std.specs.Prelude.{◌≡◌, [], IfOk, map};
 ghost use Rattle.rml_value.specs.declared.value.Value.{out-Value};
-ghost use Rattle.rml_search.specs.Matching.{bind, when as when_holds, matching as matching_of, matching_all, match_all, match_lit, match_nil_at, parts_at, head_of, tail_of, match_list as list_matched, match_chain as chain_matched};
+ghost use Rattle.rml_value.specs.declared.value.TheConstants as constants;
+ghost use Rattle.rml_search.specs.Matching.{bind, when as when_holds, matching as matching_of, matching_all, match_all, match_lit, match_con, parts_at, head_of, tail_of, match_list as list_matched, match_chain as chain_matched};
 
 use crate::state::{Bound, Env, Matched, Parts};
 use rml_base::{Bytes, Memory};
@@ -110,7 +111,7 @@ pub fn match_each(
 }
 
 fn match_end(value: &Value, env: Env) -> Matched
-    ensures { result ≡ match_nil_at (out-Value value.now) env }
+    ensures { result ≡ match_con constants.NIL [] value.now env }
 {
     match value {
         Value::Con(c, vs) => {
