@@ -7,7 +7,7 @@ use Rattle.rml_resolved.specs.declared.program.Program.{Program}
 use Rattle.rml_value.specs.declared.value.Value.{Value}
 use Rattle.rml_resolved.specs.declared.trees.RExp.{RExp}
 use Rattle.rml_search.specs.Matching.{Env}
-use Rattle.rml_search.specs.Values.{Meaning, meaning, with_first, all_of, val_in, vals_to}
+use Rattle.rml_search.specs.Values.{Evaluation, meaning, with_first, all_of, val_in, vals_to}
 
 pub vals_to-some : (p : Program) (depth k : ℕ) → 0 < depth → vals_to p depth k ≡ val_in (slice_get p.vals k) (λ e. meaning p.names (vals_to p (depth - 1)) e [])
 vals_to-some p zero k h = absurd (omega arith)
@@ -22,7 +22,7 @@ regroup done v None = refl
 regroup done v (Some rest) = ap Some (sym (append_assoc done (v ∷ []) rest))
 
 -- one expression more
-pub all-more : (f : RExp → Meaning) (es : List RExp) (i : ℕ) (e : RExp) (env : Env) (v : Value) (done next : List Value) → i < length es → e ≡ get_or es i e → Some v ≡ f e env → next ≡ done ++ v ∷ []
+pub all-more : (f : RExp → Evaluation) (es : List RExp) (i : ℕ) (e : RExp) (env : Env) (v : Value) (done next : List Value) → i < length es → e ≡ get_or es i e → Some v ≡ f e env → next ≡ done ++ v ∷ []
     → option_map (λ rest. done ++ rest) (all_of (map f (drop i es)) env) ≡ option_map (λ rest. next ++ rest) (all_of (map f (drop (i + 1) es)) env)
 all-more f es i e env v done next inside is held more =
     let here : drop i es ≡ e ∷ drop (suc i) es = rw (drop-cons es i e, ← is) refl in

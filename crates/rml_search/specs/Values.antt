@@ -22,15 +22,16 @@ value_of_lit names (lit.Int n) = Some (value.Int n)
 value_of_lit names (lit.Char c) = Some (value.Char c)
 value_of_lit names (lit.Text k) = option_map value.Text (slice_get names k)
 
-abbrev pub Meaning : Type 0
-Meaning = Env → Option Value
+-- the value of an expression, from what the variables stand for
+abbrev pub Evaluation : Type 0
+Evaluation = Env → Option Value
 
 abbrev pub with_first : Option Value → Option (List Value) → Option (List Value)
 with_first None vs = None
 with_first (Some v) vs = option_map (λ rest. v ∷ rest) vs
 
 -- the values of expressions
-abbrev pub all_of : List Meaning → Env → Option (List Value)
+abbrev pub all_of : List Evaluation → Env → Option (List Value)
 all_of [] env = Some []
 all_of (e ∷ es) env = with_first (e env) (all_of es env)
 
@@ -40,7 +41,7 @@ chain_of [] = None
 chain_of (v ∷ []) = Some v
 chain_of (v ∷ w ∷ vs) = option_map (λ rest. value.Con CONS (v ∷ rest ∷ [])) (chain_of (w ∷ vs))
 
-abbrev pub value_at : List (List ℕ) → (ℕ → Option Value) → RExp-F Meaning → Meaning
+abbrev pub value_at : List (List ℕ) → (ℕ → Option Value) → RExp-F Evaluation → Evaluation
 value_at names vals (RExp-F.Lit l) env = value_of_lit names l
 value_at names vals (RExp-F.Var x) env = look x env
 value_at names vals (RExp-F.Val k) env = vals k
@@ -51,8 +52,8 @@ value_at names vals (RExp-F.List es) env = option_map list_of (all_of es env)
 value_at names vals (RExp-F.Cons es) env = option_and_then chain_of (all_of es env)
 
 -- an expression, over what the vals are
-abbrev pub meaning : List (List ℕ) → (ℕ → Option Value) → RExp → Meaning
-meaning names vals = fold-RExp Meaning (value_at names vals)
+abbrev pub meaning : List (List ℕ) → (ℕ → Option Value) → RExp → Evaluation
+meaning names vals = fold-RExp Evaluation (value_at names vals)
 
 -- ---- vals: each is the value of its expression, which names only vals that need it not
 
@@ -68,7 +69,7 @@ vals_to p (suc depth) k = val_in (slice_get p.vals k) (λ e. meaning p.names (va
 abbrev pub val_of : Program → ℕ → Option Value
 val_of p = vals_to p (length p.vals)
 
-abbrev pub value_of : Program → RExp → Meaning
+abbrev pub value_of : Program → RExp → Evaluation
 value_of p = meaning p.names (val_of p)
 
 abbrev pub values_of : Program → List RExp → Env → Option (List Value)
