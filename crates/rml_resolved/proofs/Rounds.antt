@@ -201,3 +201,26 @@ no_circle_at graph closed free false e =
 
 pub exact : (graph : Graph) → IsClosed graph → IsTrue (has_no_circle graph) ↔ IsAcyclic graph
 exact graph closed = (acyclic graph, λ free. no_circle_at graph closed free (has_no_circle graph) refl)
+
+-- ---- an induction over a graph that has no circle
+
+finished-inside : (graph : Graph) (n k : ℕ) → done graph n k ≡ true → k < length graph
+finished-inside graph n k h =
+    let count : length (rounds graph n) ≡ length graph = rounds-length graph n in
+    elim (slice_get_cases (rounds graph n) k).1 [
+      | inl w ↦ (let inside = w.1 in omega arith)
+      | inr w ↦ absurd (let off : done graph n k ≡ false = ap (λ (o : Option Bool). unwrap_or o false) w.1 in cc)
+    ]
+
+by_rounds_to : (graph : Graph) (P : ℕ → ℕ → Type 0) → ((n k : ℕ) → k < length graph → ((j : ℕ) → Needs graph k j → P n j) → P (suc n) k)
+    → (n k : ℕ) → done graph n k ≡ true → P n k
+by_rounds_to graph P each zero k h = absurd (none_done graph k h)
+by_rounds_to graph P each (suc n) k h = each n k (finished-inside graph (suc n) k h) (λ j c. by_rounds_to graph P each n j (needed graph n k j h c))
+
+-- what holds of a number a round after it holds of all that the number needs holds of each after all rounds
+pub by_rounds : (graph : Graph) (P : ℕ → ℕ → Type 0) → IsTrue (has_no_circle graph)
+    → ((n k : ℕ) → k < length graph → ((j : ℕ) → Needs graph k j → P n j) → P (suc n) k)
+    → (k : ℕ) → k < length graph → P (length graph) k
+by_rounds graph P h each k inside =
+    let count : length (rounds graph (length graph)) ≡ length graph = rounds-length graph (length graph) in
+    by_rounds_to graph P each (length graph) k (all_closed (rounds graph (length graph)) k h (omega arith))

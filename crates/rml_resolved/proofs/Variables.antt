@@ -149,7 +149,7 @@ rule_binds_each n cons r x fits once less =
     let two = both (is_distinct (rule_binds r)) (eqb (length (rule_binds r)) r.vars) once in
     all_there (rule_binds r) r.vars x (rule_below n cons r fits) two.first (eqb-true (length (rule_binds r)) r.vars two.second) less
 
-passes : {X : Type 0} (test : X → Bool) (xs : List X) (x : X) → list_all test xs ≡ true → Contains xs x → test x ≡ true
+pub passes : {X : Type 0} (test : X → Bool) (xs : List X) (x : X) → list_all test xs ≡ true → Contains xs x → test x ≡ true
 passes test xs x h there = All-contains (λ y. test y ≡ true) xs x (AllPass-from_list_all test xs h) there
 
 pub bound : (p : Program) (r : RelDef) (rule : RRule) (x : ℕ) → Contains p.rels r → Contains r.rules rule → x < rule.vars → IsTrue (contains x (rule_binds rule))

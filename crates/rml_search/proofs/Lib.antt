@@ -1,5 +1,6 @@
 pub mod Chains
 pub mod Vals
+pub mod Valued
 pub mod Depth
 pub mod Weighing
 pub mod Shown

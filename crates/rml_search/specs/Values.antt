@@ -10,12 +10,17 @@ use Rattle.rml_resolved.specs.declared.program.Program.{Program}
 use Rattle.rml_resolved.specs.declared.tables.ValDef.{ValDef}
 use Rattle.rml_resolved.specs.declared.trees.RExp.{RExp, fold-RExp}
 use Rattle.rml_resolved.specs.declared.trees.RExp.TheOpen.{RExp-F}
+use Rattle.rml_search.specs.declared.state.Bound.{Bound}
 use Rattle.rml_search.specs.Matching.{Env}
 
 -- what a variable stands for
 abbrev pub look : ℕ → Env → Option Value
 look x [] = None
 look x (b ∷ env) = if x == b.var then Some b.value else look x env
+
+-- the variables that stand for something
+abbrev pub bound_in : Env → List ℕ
+bound_in env = map (λ (b : Bound). b.var) env
 
 abbrev pub value_of_lit : List (List ℕ) → Lit → Option Value
 value_of_lit names (lit.Int n) = Some (value.Int n)

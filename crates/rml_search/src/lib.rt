@@ -9,6 +9,7 @@ mod patterns;
 mod plain;
 mod run;
 mod state;
+pub mod value_laws;
 mod values;
 
 pub use meaning::Searched;
