@@ -1,9 +1,9 @@
 -- Expressions over vals that agree have one value; expressions whose vals and variables have values have one too. So a val is
 -- its expression's value, and each expression of a program has a value where its variables are bound.
 use Rattle.std.proofs.Common.{◌≡◌, ℕ, zero, suc, ◌<◌, Bool, true, false, List, [], ◌∷◌, map, length, Option, Some, None, refl, sym, ap, ◌∙◌, subst, inl, inr, arith, IsTrue}
-use Rattle.std.specs.Prelude.{◌==◌, ◌||◌, ◌&&◌, if◌then◌else◌, nat_lt, nat_le, slice_get, unwrap_or, is_some, IsSome, option_map, option_and_then}
+use Rattle.std.specs.Prelude.{◌==◌, ◌||◌, ◌&&◌, if◌then◌else◌, nat_le, slice_get, unwrap_or, is_some, IsSome, option_map, option_and_then}
 use Rattle.std.specs.List.{concat, Contains}
-use Rattle.std.proofs.lemmas.Bool.Decides.{nat_tests}
+use Rattle.std.proofs.lemmas.Bool.{ltb-true}
 use Rattle.std.proofs.lemmas.List.{length-map}
 use Rattle.std.proofs.lemmas.List.Elements.{Contains-append_left, Contains-append_right, Contains-get_or}
 use Rattle.std.proofs.lemmas.List.Folds.{list_all-append}
@@ -95,9 +95,6 @@ some_chained None r h = absurd (cc)
 some_chained (Some v) None h = absurd (cc)
 some_chained (Some v) (Some vs) h = some_chain v vs
 
-below_from : (a b : ℕ) → nat_lt a b ≡ true → a < b
-below_from a b h = grind (arith, nat_tests)
-
 -- each number of a list that is below a bound is found
 abbrev AreFound : ℕ → (ℕ → Option Value) → List ℕ → Type 0
 AreFound n find ks = (k : ℕ) → k < n → Contains ks k → IsSome (find k)
@@ -140,12 +137,12 @@ module _ (names : List (List ℕ)) (vals : ℕ → Option Value) (n : Counts) (c
   lit_valued (lit.Int i) h = refl
   lit_valued (lit.Char c) h = refl
   lit_valued (lit.Text k) h =
-      let less : k < n.names = below_from k n.names h in some_mapped value.Text (slice_get names k) (some_at names k (omega arith))
+      let less : k < n.names = ltb-true k n.names h in some_mapped value.Text (slice_get names k) (some_at names k (omega arith))
 
   value_layer : (y : RExp-F ((x : RExp) × HasValue x)) → HasValue (roll-RExp (map-RExp ((x : RExp) × HasValue x) RExp (λ e. e.0) y))
   value_layer (RExp-F.Lit l) = value_rolled (RExp-F.Lit l) (λ fits valued bound. lit_valued l fits)
-  value_layer (RExp-F.Var x) = value_rolled (RExp-F.Var x) (λ fits valued bound. bound x (below_from x vars fits) (0, omega arith, refl))
-  value_layer (RExp-F.Val k) = value_rolled (RExp-F.Val k) (λ fits valued bound. valued k (below_from k n.vals fits) (0, omega arith, refl))
+  value_layer (RExp-F.Var x) = value_rolled (RExp-F.Var x) (λ fits valued bound. bound x (ltb-true x vars fits) (0, omega arith, refl))
+  value_layer (RExp-F.Val k) = value_rolled (RExp-F.Val k) (λ fits valued bound. valued k (ltb-true k n.vals fits) (0, omega arith, refl))
   value_layer (RExp-F.Rel r) = value_rolled (RExp-F.Rel r) (λ fits valued bound. refl)
   value_layer (RExp-F.Con c es) =
       value_rolled (RExp-F.Con c (map (λ e. e.0) es))

@@ -1,6 +1,7 @@
 pub mod Matching
 pub mod Values
 pub mod Search
+pub mod Standing
 pub mod Walk
 pub mod Runs
 pub mod Growing

@@ -1,4 +1,4 @@
--- The values of expressions. Evaluating never fails; None is a value of no meaning, which typing rules out.
+-- The values of expressions. Evaluating never fails; None is no value, to which no expression of a program comes (see the laws).
 use Rattle.std.specs.Prelude.{ℕ, zero, suc, ◌==◌, if◌then◌else◌, List, [], ◌∷◌, map, length, Option, Some, None, option_map, option_and_then, slice_get}
 use Rattle.rml_syntax.specs.declared.token.Lit.{Lit}
 use Rattle.rml_syntax.specs.declared.token.Lit.TheVariants as lit

@@ -1,12 +1,24 @@
 //! What holds of the values of expressions and vals. These functions do nothing: their contracts are the laws.
 
 ghost use Rattle.std.specs.Prelude.{◌≡◌, ◌<◌, [], ℕ, List, length, IsSome, IsTrue, slice_get};
-ghost use Rattle.rml_resolved.specs.Binding.{uses, all_use, can_use};
+ghost use Rattle.std.specs.List.{Contains};
+ghost use Rattle.rml_base.specs.Went.{Trace, Yes};
+ghost use Rattle.rml_value.specs.declared.value.Value.{Value};
+ghost use Rattle.rml_builtin.specs.Given.{Bindings};
+ghost use Rattle.rml_resolved.specs.Binding.{binds, all_bind, uses, all_use, can_use, after_goal, after_goals};
 ghost use Rattle.rml_resolved.specs.Fits.{counts_of, exp_fits, exps_fit};
 ghost use Rattle.rml_resolved.specs.declared.program.Program.{Program};
+ghost use Rattle.rml_resolved.specs.declared.tables.RelDef.{RelDef};
+ghost use Rattle.rml_resolved.specs.declared.tables.RRule.{RRule};
 ghost use Rattle.rml_resolved.specs.declared.trees.RExp.{RExp};
-ghost use Rattle.rml_search.specs.Matching.{Env};
+ghost use Rattle.rml_resolved.specs.declared.trees.RPat.{RPat};
+ghost use Rattle.rml_resolved.specs.declared.trees.RGoal.{RGoal, out-RGoal};
+ghost use Rattle.rml_search.specs.declared.state.Matched.TheVariants as matched;
+ghost use Rattle.rml_search.specs.declared.state.After.{After};
+ghost use Rattle.rml_search.specs.Matching.{Env, matching, matching_all};
 ghost use Rattle.rml_search.specs.Values.{bound_in, val_in, val_of, value_of, values_of};
+ghost use Rattle.rml_search.specs.Search.{RelationCalls, going, going_all};
+ghost use Rattle.rml_search.specs.Standing.{BindsAlso, HasBound, Stands, HasValues};
 
 /// A val is its expression's value; the depth to which vals are found is no bound. A number that no val has is none on both
 /// sides.
@@ -25,4 +37,27 @@ pub fn expressions_have_values()
         → IsTrue (can_use (uses e) (bound_in env)) → IsSome (value_of p e env) }
     ensures several { (p : Program) (vars : ℕ) (es : List RExp) (env : Env) → IsTrue (exps_fit (counts_of p.names p.vals p.rels) p.cons vars es)
         → IsTrue (can_use (all_use es) (bound_in env)) → IsSome (values_of p es env) }
+{}
+
+/// After a match, what was bound before is bound, and behind it the variables of the patterns, in their order.
+pub fn matches_bind()
+    ensures one { (names : List (List ℕ)) (q : RPat) (v : Value) (env : Env) → BindsAlso env (binds q) (matching names q v env) }
+    ensures several { (names : List (List ℕ)) (qs : List RPat) (vs : List Value) (env : Env) → BindsAlso env (all_bind qs) (matching_all names qs vs env) }
+{}
+
+/// After an answer of goals, what these say is bound, given what was bound before.
+pub fn goals_bind()
+    ensures one { (p : Program) (calls : RelationCalls) (g : RGoal) (env : Env) (bound : List ℕ) → after_goal g (bound_in env) ≡ Some bound
+        → (bindings : Bindings) (n : ℕ) → HasBound bound (going p calls g env bindings n) }
+    ensures several { (p : Program) (calls : RelationCalls) (gs : List RGoal) (env : Env) (bound : List ℕ) → after_goals gs (bound_in env) ≡ Some bound
+        → (bindings : Bindings) (n : ℕ) → HasBound bound (going_all p calls gs env bindings n) }
+{}
+
+/// In the search of a program each expression has a value where it comes to be evaluated: those of a goal where it stands, and
+/// the results of a rule behind its premises.
+pub fn no_expression_is_without_a_value()
+    ensures goals { (p : Program) (calls : RelationCalls) (g : RGoal) (env : Env) → Stands p calls g env → HasValues p env (out-RGoal g) }
+    ensures results { (p : Program) (calls : RelationCalls) (r : RelDef) (rule : RRule) (vs : List Value) (env : Env) (bindings : Bindings) (n m : ℕ) (s : After) (t : Trace)
+        → Contains p.rels r → Contains r.rules rule → matching_all p.names rule.inputs vs [] ≡ matched.Yes env
+        → going_all p calls rule.goals env bindings n ≡ Yes s t m → IsSome (values_of p rule.results s.env) }
 {}
