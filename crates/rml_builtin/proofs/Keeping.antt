@@ -1,6 +1,6 @@
 -- What a built-in leaves as it was.
-use Rattle.std.proofs.Common.{◌≡◌, ◌≢◌, ℕ, List, [], ◌∷◌, Bool, true, false, Option, Some, None, refl, length, ℤ, pos, negsuc}
-use Rattle.std.specs.Prelude.{if◌then◌else◌, slice_get, nat_le, ◌+ℤ◌, ◌-ℤ◌, ◌*ℤ◌, int_div, int_lt, neg_ℤ}
+use Rattle.std.proofs.Common.{◌≢◌, ℕ, List, [], ◌∷◌, Bool, true, false, Option, Some, None, refl, length, ℤ, pos, negsuc}
+use Rattle.std.specs.Prelude.{if◌then◌else◌, slice_get, nat_le, ◌+ℤ◌, ◌-ℤ◌, ◌*ℤ◌, int_div, neg_ℤ}
 use Rattle.std.specs.Ordering.{int_eq}
 use Rattle.rml_value.specs.declared.value.Value.{Value}
 use Rattle.rml_value.specs.Range.{is_integer}
@@ -8,14 +8,14 @@ use Rattle.rml_value.specs.Lists.{items_of}
 use Rattle.rml_builtin.specs.declared.row.Row.{Row}
 use Rattle.rml_builtin.specs.declared.row.Row.TheVariants.{IntAdd, IntSub, IntMul, IntDiv, IntMod, IntNeg, IntAbs, IntMax, IntMin, IntLt, IntLe, IntGt, IntGe, IntEq, IntNe, IntString, StringInt, IntChar, CharInt, StringLength, StringNth, StringAppend, StringList, ListString, LvarNew, LvarGet, LvarSet, Print, ListVector, VectorList, VectorLength, VectorNth}
 use Rattle.rml_builtin.specs.declared.given.Given.{Given}
-use Rattle.rml_builtin.specs.declared.given.Given.TheVariants.{Yes, No, Wrong}
+use Rattle.rml_builtin.specs.declared.given.Given.TheVariants.{No, Wrong}
 use Rattle.rml_builtin.specs.Given.{Bindings, gives_one, ranged, given, found}
 use Rattle.rml_builtin.specs.Arguments.{int_of, char_of, text_of, cell_of, vector_of, chars_of, one, two}
 use Rattle.rml_builtin.specs.Decimal.{read}
-use Rattle.rml_builtin.specs.Integers.{over_int, over_ints, divided, remaining, char_from}
-use Rattle.rml_builtin.specs.Texts.{nth_char, joined, over_text}
-use Rattle.rml_builtin.specs.Lvars.{new_lvar, get_lvar, set_lvar, set_entry}
-use Rattle.rml_builtin.specs.Vectors.{nth_item, over_vector}
+use Rattle.rml_builtin.specs.Integers.{absolute}
+use Rattle.rml_builtin.specs.Texts.{char_from, nth_char}
+use Rattle.rml_builtin.specs.Lvars.{set_entry}
+use Rattle.rml_builtin.specs.Vectors.{nth_item}
 use Rattle.rml_builtin.specs.BuiltIns.{built_in}
 use Rattle.rml_builtin.specs.Keeps.{KeepsBindings, IsSilent}
 
@@ -44,29 +44,6 @@ module _ (P : Given → Type 0) (bindings : Bindings) (p : Passes P bindings) wh
   char-keeps (pos n) = either-keeps (nat_le n 255) P _ _ (p.value _) p.none
   char-keeps (negsuc n) = p.none
 
-  over_int-keeps : (row : Row) (n : ℤ) → P (over_int row n bindings)
-  over_int-keeps IntNeg n = ranged-keeps (neg_ℤ n)
-  over_int-keeps IntAbs n = ranged-keeps (if int_lt n (pos 0) then neg_ℤ n else n)
-  over_int-keeps IntString n = p.value _
-  over_int-keeps IntChar n = char-keeps n
-  over_int-keeps _ n = p.wrong
-
-  over_ints-keeps : (row : Row) (m n : ℤ) → P (over_ints row m n bindings)
-  over_ints-keeps IntAdd m n = ranged-keeps (m +ℤ n)
-  over_ints-keeps IntSub m n = ranged-keeps (m -ℤ n)
-  over_ints-keeps IntMul m n = ranged-keeps (m *ℤ n)
-  over_ints-keeps IntDiv m n = either-keeps (int_eq n (pos 0)) P _ _ p.none (ranged-keeps (int_div m n))
-  over_ints-keeps IntMod m n = either-keeps (int_eq n (pos 0)) P _ _ p.none (p.value _)
-  over_ints-keeps IntMax m n = p.value _
-  over_ints-keeps IntMin m n = p.value _
-  over_ints-keeps IntLt m n = p.value _
-  over_ints-keeps IntLe m n = p.value _
-  over_ints-keeps IntGt m n = p.value _
-  over_ints-keeps IntGe m n = p.value _
-  over_ints-keeps IntEq m n = p.value _
-  over_ints-keeps IntNe m n = p.value _
-  over_ints-keeps _ m n = p.wrong
-
   nth_char-keeps : (t : List ℕ) (n : ℤ) → P (nth_char t n bindings)
   nth_char-keeps t (pos n) = found-keeps P (slice_get t n) _ p.none (λ c. p.value _)
   nth_char-keeps t (negsuc n) = p.none
@@ -77,10 +54,10 @@ module _ (P : Given → Type 0) (bindings : Bindings) (p : Passes P bindings) wh
 
   -- the rows that make no logical variable, set none and print nothing
   plain-keeps : (row : Row) (vs : List Value) → row ≢ LvarNew → row ≢ LvarSet → row ≢ Print → P (built_in row vs bindings)
-  plain-keeps IntNeg vs a b c = given-keeps P (one int_of vs) _ p.wrong (over_int-keeps IntNeg)
-  plain-keeps IntAbs vs a b c = given-keeps P (one int_of vs) _ p.wrong (over_int-keeps IntAbs)
-  plain-keeps IntString vs a b c = given-keeps P (one int_of vs) _ p.wrong (over_int-keeps IntString)
-  plain-keeps IntChar vs a b c = given-keeps P (one int_of vs) _ p.wrong (over_int-keeps IntChar)
+  plain-keeps IntNeg vs a b c = given-keeps P (one int_of vs) _ p.wrong (λ n. ranged-keeps (neg_ℤ n))
+  plain-keeps IntAbs vs a b c = given-keeps P (one int_of vs) _ p.wrong (λ n. ranged-keeps (absolute n))
+  plain-keeps IntString vs a b c = given-keeps P (one int_of vs) _ p.wrong (λ n. p.value _)
+  plain-keeps IntChar vs a b c = given-keeps P (one int_of vs) _ p.wrong char-keeps
   plain-keeps CharInt vs a b c = given-keeps P (one char_of vs) _ p.wrong (λ _. p.value _)
   plain-keeps StringInt vs a b c = given-keeps P (one text_of vs) _ p.wrong (λ t. found-keeps P (read t) _ p.none (λ n. p.value _))
   plain-keeps StringLength vs a b c = given-keeps P (one text_of vs) _ p.wrong (λ t. ranged-keeps (pos (length t)))
@@ -96,19 +73,19 @@ module _ (P : Given → Type 0) (bindings : Bindings) (p : Passes P bindings) wh
   plain-keeps VectorList vs a b c = given-keeps P (one vector_of vs) _ p.wrong (λ items. p.value _)
   plain-keeps VectorLength vs a b c = given-keeps P (one vector_of vs) _ p.wrong (λ items. ranged-keeps (pos (length items)))
   plain-keeps VectorNth vs a b c = given-keeps P (two vector_of int_of vs) _ p.wrong (λ q. nth_item-keeps q.0 q.1)
-  plain-keeps IntAdd vs a b c = given-keeps P (two int_of int_of vs) _ p.wrong (λ q. over_ints-keeps IntAdd q.0 q.1)
-  plain-keeps IntSub vs a b c = given-keeps P (two int_of int_of vs) _ p.wrong (λ q. over_ints-keeps IntSub q.0 q.1)
-  plain-keeps IntMul vs a b c = given-keeps P (two int_of int_of vs) _ p.wrong (λ q. over_ints-keeps IntMul q.0 q.1)
-  plain-keeps IntDiv vs a b c = given-keeps P (two int_of int_of vs) _ p.wrong (λ q. over_ints-keeps IntDiv q.0 q.1)
-  plain-keeps IntMod vs a b c = given-keeps P (two int_of int_of vs) _ p.wrong (λ q. over_ints-keeps IntMod q.0 q.1)
-  plain-keeps IntMax vs a b c = given-keeps P (two int_of int_of vs) _ p.wrong (λ q. over_ints-keeps IntMax q.0 q.1)
-  plain-keeps IntMin vs a b c = given-keeps P (two int_of int_of vs) _ p.wrong (λ q. over_ints-keeps IntMin q.0 q.1)
-  plain-keeps IntLt vs a b c = given-keeps P (two int_of int_of vs) _ p.wrong (λ q. over_ints-keeps IntLt q.0 q.1)
-  plain-keeps IntLe vs a b c = given-keeps P (two int_of int_of vs) _ p.wrong (λ q. over_ints-keeps IntLe q.0 q.1)
-  plain-keeps IntGt vs a b c = given-keeps P (two int_of int_of vs) _ p.wrong (λ q. over_ints-keeps IntGt q.0 q.1)
-  plain-keeps IntGe vs a b c = given-keeps P (two int_of int_of vs) _ p.wrong (λ q. over_ints-keeps IntGe q.0 q.1)
-  plain-keeps IntEq vs a b c = given-keeps P (two int_of int_of vs) _ p.wrong (λ q. over_ints-keeps IntEq q.0 q.1)
-  plain-keeps IntNe vs a b c = given-keeps P (two int_of int_of vs) _ p.wrong (λ q. over_ints-keeps IntNe q.0 q.1)
+  plain-keeps IntAdd vs a b c = given-keeps P (two int_of int_of vs) _ p.wrong (λ q. ranged-keeps (q.0 +ℤ q.1))
+  plain-keeps IntSub vs a b c = given-keeps P (two int_of int_of vs) _ p.wrong (λ q. ranged-keeps (q.0 -ℤ q.1))
+  plain-keeps IntMul vs a b c = given-keeps P (two int_of int_of vs) _ p.wrong (λ q. ranged-keeps (q.0 *ℤ q.1))
+  plain-keeps IntDiv vs a b c = given-keeps P (two int_of int_of vs) _ p.wrong (λ q. either-keeps (int_eq q.1 (pos 0)) P _ _ p.none (ranged-keeps (int_div q.0 q.1)))
+  plain-keeps IntMod vs a b c = given-keeps P (two int_of int_of vs) _ p.wrong (λ q. either-keeps (int_eq q.1 (pos 0)) P _ _ p.none (p.value _))
+  plain-keeps IntMax vs a b c = given-keeps P (two int_of int_of vs) _ p.wrong (λ q. p.value _)
+  plain-keeps IntMin vs a b c = given-keeps P (two int_of int_of vs) _ p.wrong (λ q. p.value _)
+  plain-keeps IntLt vs a b c = given-keeps P (two int_of int_of vs) _ p.wrong (λ q. p.value _)
+  plain-keeps IntLe vs a b c = given-keeps P (two int_of int_of vs) _ p.wrong (λ q. p.value _)
+  plain-keeps IntGt vs a b c = given-keeps P (two int_of int_of vs) _ p.wrong (λ q. p.value _)
+  plain-keeps IntGe vs a b c = given-keeps P (two int_of int_of vs) _ p.wrong (λ q. p.value _)
+  plain-keeps IntEq vs a b c = given-keeps P (two int_of int_of vs) _ p.wrong (λ q. p.value _)
+  plain-keeps IntNe vs a b c = given-keeps P (two int_of int_of vs) _ p.wrong (λ q. p.value _)
 
 print-keeps : (vs : List Value) (bindings : Bindings) → KeepsBindings bindings (built_in Print vs bindings)
 print-keeps vs bindings = given-keeps (KeepsBindings bindings) (one text_of vs) _ tt (λ t. refl)

@@ -1,5 +1,5 @@
 -- The arguments that a row takes, by their kinds.
-use Rattle.std.specs.Prelude.{ℕ, List, [], ◌∷◌, Option, Some, None, option_map, option_and_then, ℤ}
+use Rattle.std.specs.Prelude.{ℕ, List, [], ◌∷◌, Option, Some, None, option_and_then, ℤ}
 use Rattle.rml_value.specs.declared.value.Value.{Value, out-Value}
 use Rattle.rml_value.specs.declared.value.Value.TheOpen.{Value-F}
 use Rattle.rml_value.specs.Lists.{items_of}

@@ -1,42 +1,69 @@
--- The built-ins: what each row gives of its arguments and the bindings.
-use Rattle.std.specs.Prelude.{ℕ, List, [], ◌∷◌, Option, Some, None, slice_get, pos}
+-- The built-ins: what each row gives of its arguments and the bindings, a line a row. Arguments of other kinds than a row takes
+-- are Wrong; an integer result out of range is no answer.
+use Rattle.std.specs.Prelude.{ℕ, not, List, ◌++◌, length, map, Option, Some, slice_get, pos, ◌+ℤ◌, ◌-ℤ◌, ◌*ℤ◌, neg_ℤ, int_le, int_lt}
+use Rattle.std.specs.Int.{int_max, int_min}
+use Rattle.std.specs.Ordering.{int_eq}
 use Rattle.rml_value.specs.declared.value.Value.{Value}
 use Rattle.rml_value.specs.declared.value.Value.TheVariants as value
-use Rattle.rml_value.specs.Lists.{items_of}
+use Rattle.rml_value.specs.Lists.{items_of, list_of}
 use Rattle.rml_builtin.specs.declared.row.TheConstants.{ROWS}
 use Rattle.rml_builtin.specs.declared.row.Row.{Row}
-use Rattle.rml_builtin.specs.declared.row.Row.TheVariants.{IntNeg, IntAbs, IntString, StringInt, IntChar, CharInt, StringLength, StringNth, StringAppend, StringList, ListString, LvarNew, LvarGet, LvarSet, Print, ListVector, VectorList, VectorLength, VectorNth}
+use Rattle.rml_builtin.specs.declared.row.Row.TheVariants.{IntAdd, IntSub, IntMul, IntDiv, IntMod, IntNeg, IntAbs, IntMax, IntMin, IntLt, IntLe, IntGt, IntGe, IntEq, IntNe, IntString, StringInt, IntChar, CharInt, StringLength, StringNth, StringAppend, StringList, ListString, LvarNew, LvarGet, LvarSet, Print, ListVector, VectorList, VectorLength, VectorNth}
 use Rattle.rml_builtin.specs.declared.given.Given.{Given}
-use Rattle.rml_builtin.specs.Given.{Bindings, gives_one, given}
+use Rattle.rml_builtin.specs.Given.{Bindings, gives_one, ranged, truth, given}
 use Rattle.rml_builtin.specs.Arguments.{int_of, char_of, text_of, cell_of, vector_of, chars_of, one, two}
-use Rattle.rml_builtin.specs.Integers.{over_int, over_ints}
-use Rattle.rml_builtin.specs.Texts.{nth_char, joined, over_text}
+use Rattle.rml_builtin.specs.Integers.{divided, remaining, absolute}
+use Rattle.rml_builtin.specs.Decimal.{written}
+use Rattle.rml_builtin.specs.Texts.{int_from, char_from, nth_char, printed}
 use Rattle.rml_builtin.specs.Lvars.{new_lvar, get_lvar, set_lvar}
-use Rattle.rml_builtin.specs.Vectors.{nth_item, over_vector}
+use Rattle.rml_builtin.specs.Vectors.{nth_item}
 
-abbrev pub built_in : Row → List Value → Bindings → Given
-built_in IntNeg vs bindings = given (one int_of vs) (λ n. over_int IntNeg n bindings)
-built_in IntAbs vs bindings = given (one int_of vs) (λ n. over_int IntAbs n bindings)
-built_in IntString vs bindings = given (one int_of vs) (λ n. over_int IntString n bindings)
-built_in IntChar vs bindings = given (one int_of vs) (λ n. over_int IntChar n bindings)
-built_in CharInt vs bindings = given (one char_of vs) (λ c. gives_one (value.Int (pos c)) bindings)
-built_in StringInt vs bindings = given (one text_of vs) (λ t. over_text StringInt t bindings)
-built_in StringLength vs bindings = given (one text_of vs) (λ t. over_text StringLength t bindings)
-built_in StringList vs bindings = given (one text_of vs) (λ t. over_text StringList t bindings)
-built_in Print vs bindings = given (one text_of vs) (λ t. over_text Print t bindings)
-built_in StringNth vs bindings = given (two text_of int_of vs) (λ p. nth_char p.0 p.1 bindings)
-built_in StringAppend vs bindings = given (two text_of text_of vs) (λ p. joined p.0 p.1 bindings)
-built_in ListString vs bindings = given (one chars_of vs) (λ cs. gives_one (value.Text cs) bindings)
-built_in LvarNew vs bindings = new_lvar vs bindings
-built_in LvarGet vs bindings = given (one cell_of vs) (λ k. get_lvar k bindings)
-built_in LvarSet vs bindings = given (two cell_of Some vs) (λ p. set_lvar p.0 p.1 bindings)
-built_in ListVector vs bindings = given (one items_of vs) (λ items. gives_one (value.Vector items) bindings)
-built_in VectorList vs bindings = given (one vector_of vs) (λ items. over_vector VectorList items bindings)
-built_in VectorLength vs bindings = given (one vector_of vs) (λ items. over_vector VectorLength items bindings)
-built_in VectorNth vs bindings = given (two vector_of int_of vs) (λ p. nth_item p.0 p.1 bindings)
--- the rows over two integers
-built_in row vs bindings = given (two int_of int_of vs) (λ p. over_ints row p.0 p.1 bindings)
+-- what a row gives of the bindings, where its arguments are known
+abbrev pub Giving : Type 0
+Giving = Bindings → Given
 
--- a row by its number; a number that is off has no meaning
-abbrev pub built_in_at : ℕ → List Value → Bindings → Given
+-- a row over one argument
+abbrev pub over_one : {A : Type 0} → (Value → Option A) → (A → Giving) → List Value → Giving
+over_one kind go vs bindings = given (one kind vs) (λ x. go x bindings)
+
+-- a row over two arguments
+abbrev pub over_two : {A B : Type 0} → (Value → Option A) → (Value → Option B) → (A → B → Giving) → List Value → Giving
+over_two first second go vs bindings = given (two first second vs) (λ p. go p.0 p.1 bindings)
+
+abbrev pub built_in : Row → List Value → Giving
+built_in IntAdd = over_two int_of int_of (λ m n. ranged (m +ℤ n))
+built_in IntSub = over_two int_of int_of (λ m n. ranged (m -ℤ n))
+built_in IntMul = over_two int_of int_of (λ m n. ranged (m *ℤ n))
+built_in IntDiv = over_two int_of int_of divided
+built_in IntMod = over_two int_of int_of remaining
+built_in IntNeg = over_one int_of (λ n. ranged (neg_ℤ n))
+built_in IntAbs = over_one int_of (λ n. ranged (absolute n))
+built_in IntMax = over_two int_of int_of (λ m n. gives_one (value.Int (int_max m n)))
+built_in IntMin = over_two int_of int_of (λ m n. gives_one (value.Int (int_min m n)))
+built_in IntLt = over_two int_of int_of (λ m n. truth (int_lt m n))
+built_in IntLe = over_two int_of int_of (λ m n. truth (int_le m n))
+built_in IntGt = over_two int_of int_of (λ m n. truth (int_lt n m))
+built_in IntGe = over_two int_of int_of (λ m n. truth (int_le n m))
+built_in IntEq = over_two int_of int_of (λ m n. truth (int_eq m n))
+built_in IntNe = over_two int_of int_of (λ m n. truth (not (int_eq m n)))
+built_in IntString = over_one int_of (λ n. gives_one (value.Text (written n)))
+built_in StringInt = over_one text_of int_from
+built_in IntChar = over_one int_of char_from
+built_in CharInt = over_one char_of (λ c. gives_one (value.Int (pos c)))
+built_in StringLength = over_one text_of (λ t. ranged (pos (length t)))
+built_in StringNth = over_two text_of int_of nth_char
+built_in StringAppend = over_two text_of text_of (λ t u. gives_one (value.Text (t ++ u)))
+built_in StringList = over_one text_of (λ t. gives_one (list_of (map value.Char t)))
+built_in ListString = over_one chars_of (λ cs. gives_one (value.Text cs))
+built_in LvarNew = new_lvar
+built_in LvarGet = over_one cell_of get_lvar
+built_in LvarSet = over_two cell_of Some set_lvar
+built_in Print = over_one text_of printed
+built_in ListVector = over_one items_of (λ items. gives_one (value.Vector items))
+built_in VectorList = over_one vector_of (λ items. gives_one (list_of items))
+built_in VectorLength = over_one vector_of (λ items. ranged (pos (length items)))
+built_in VectorNth = over_two vector_of int_of nth_item
+
+-- a built-in by its number; a number that is off has no meaning
+abbrev pub built_in_at : ℕ → List Value → Giving
 built_in_at number vs bindings = given (slice_get ROWS number) (λ row. built_in row vs bindings)

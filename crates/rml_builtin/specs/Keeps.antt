@@ -1,5 +1,5 @@
 -- What a built-in leaves as it was.
-use Rattle.std.specs.Prelude.{◌≡◌, List, []}
+use Rattle.std.specs.Prelude.{◌≡◌, []}
 use Rattle.rml_builtin.specs.declared.given.Given.{Given}
 use Rattle.rml_builtin.specs.declared.given.Given.TheVariants.{Yes, No, Wrong}
 use Rattle.rml_builtin.specs.Given.{Bindings}

@@ -1,6 +1,6 @@
 //! Making answers of built-ins.
 
-ghost use Rattle.std.specs.Prelude.{◌≡◌, IfOk};
+ghost use Rattle.std.specs.Prelude.{◌≡◌, IfOk, pos};
 ghost use Rattle.rml_builtin.specs.Given.{gives, gives_one, ranged as ranged_of, truth as truth_of};
 
 use crate::given::{Answer, Bindings, Given};
@@ -32,6 +32,17 @@ pub fn ranged(alloc: Global, n: i64, bindings: Bindings) -> Result<Given, Memory
 {
     if in_range(n) {
         answer_one(alloc, Value::Int(n), bindings)
+    } else {
+        Ok(Given::No)
+    }
+}
+
+/// A length, or no answer out of range.
+pub fn length_in_range(alloc: Global, n: usize, bindings: Bindings) -> Result<Given, Memory>
+    ensures { IfOk result (λ g. g ≡ ranged_of (pos n) bindings) }
+{
+    if n < 1 << 30 {
+        ranged(alloc, n as i64, bindings)
     } else {
         Ok(Given::No)
     }

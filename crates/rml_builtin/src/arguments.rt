@@ -3,7 +3,7 @@
 ghost use Rattle.std.specs.Prelude.{◌≡◌, IfOk, Some};
 ghost use Rattle.std.specs.Option.{option_copied};
 ghost use Rattle.rml_value.specs.Lists.{items_of as items_of_value};
-ghost use Rattle.rml_builtin.specs.Arguments.{one, two, int_of, char_of, text_of, cell_of, vector_of, chars_in, chars_of};
+ghost use Rattle.rml_builtin.specs.Arguments.{one, two, int_of, char_of, chars_in, chars_of};
 
 use rml_base::{Bytes, Memory};
 use rml_value::{Value, Values, items_of};
@@ -23,15 +23,6 @@ pub fn one_char(args: &[Value]) -> Option<u8>
 {
     match args {
         [Value::Char(c)] => Some(*c),
-        _ => None,
-    }
-}
-
-pub fn one_cell(args: &[Value]) -> Option<usize>
-    ensures { result ≡ one cell_of args.now }
-{
-    match args {
-        [Value::Cell(k)] => Some(*k),
         _ => None,
     }
 }

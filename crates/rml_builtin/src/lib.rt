@@ -5,9 +5,10 @@
 
 mod answers;
 mod arguments;
+mod arithmetic;
+mod comparisons;
 mod decimal;
 mod given;
-mod integers;
 pub mod laws;
 mod lvars;
 mod row;

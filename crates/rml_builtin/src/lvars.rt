@@ -1,10 +1,12 @@
-//! Logical variables.
+//! The rows over logical variables.
 
 ghost use Rattle.std.specs.Prelude.{◌≡◌, IfOk};
-ghost use Rattle.rml_builtin.specs.Lvars.{new_lvar, get_lvar, set_lvar, option_value};
+ghost use Rattle.rml_builtin.specs.BuiltIns.{built_in};
+ghost use Rattle.rml_builtin.specs.Lvars.{get_lvar, set_lvar, option_value};
 
 use crate::answers::{answer, answer_one};
 use crate::given::{Bindings, Given};
+use crate::row::Row;
 use rml_base::Memory;
 use rml_value::{NONE, SOME, Value, copy};
 use sqlite_items::Items;
@@ -12,7 +14,7 @@ use std::alloc::Global;
 
 /// A new entry, which is unset.
 pub fn new(alloc: Global, args: &[Value], bindings: Bindings) -> Result<Given, Memory>
-    ensures { IfOk result (λ g. g ≡ new_lvar args.now bindings) }
+    ensures { IfOk result (λ g. g ≡ built_in Row.LvarNew args.now bindings) }
 {
     match args {
         [] => {
@@ -38,8 +40,7 @@ fn option_of(alloc: Global, held: &Option<Value>) -> Result<Value, Memory>
     }
 }
 
-/// What an entry holds.
-pub fn get(alloc: Global, k: usize, bindings: Bindings) -> Result<Given, Memory>
+fn held_at(alloc: Global, k: usize, bindings: Bindings) -> Result<Given, Memory>
     ensures { IfOk result (λ g. g ≡ get_lvar k bindings) }
 {
     match bindings.get(k) {
@@ -51,8 +52,17 @@ pub fn get(alloc: Global, k: usize, bindings: Bindings) -> Result<Given, Memory>
     }
 }
 
-/// Sets an entry that is unset.
-pub fn set(alloc: Global, k: usize, value: &Value, bindings: Bindings) -> Result<Given, Memory>
+/// What an entry holds.
+pub fn get(alloc: Global, args: &[Value], bindings: Bindings) -> Result<Given, Memory>
+    ensures { IfOk result (λ g. g ≡ built_in Row.LvarGet args.now bindings) }
+{
+    match args {
+        [Value::Cell(k)] => held_at(alloc, *k, bindings),
+        _ => Ok(Given::Wrong),
+    }
+}
+
+fn set_at(alloc: Global, k: usize, value: &Value, bindings: Bindings) -> Result<Given, Memory>
     ensures { IfOk result (λ g. g ≡ set_lvar k value.now bindings) }
 {
     let mut bindings = bindings;
@@ -64,5 +74,15 @@ pub fn set(alloc: Global, k: usize, value: &Value, bindings: Bindings) -> Result
             bindings.set(k, Some(value));
             Ok(answer(alloc, Items::new(alloc), bindings))
         }
+    }
+}
+
+/// Sets an entry that is unset.
+pub fn set(alloc: Global, args: &[Value], bindings: Bindings) -> Result<Given, Memory>
+    ensures { IfOk result (λ g. g ≡ built_in Row.LvarSet args.now bindings) }
+{
+    match args {
+        [Value::Cell(k), value] => set_at(alloc, *k, value, bindings),
+        _ => Ok(Given::Wrong),
     }
 }

@@ -1,9 +1,11 @@
 //! The rows over vectors.
 
 ghost use Rattle.std.specs.Prelude.{◌≡◌, IfOk};
-ghost use Rattle.rml_builtin.specs.Vectors.{nth_item, over_vector};
+ghost use Rattle.rml_builtin.specs.BuiltIns.{built_in};
+ghost use Rattle.rml_builtin.specs.Vectors.{nth_item};
 
-use crate::answers::{answer_one, ranged};
+use crate::answers::{answer_one, length_in_range};
+use crate::arguments::one_list;
 use crate::given::{Bindings, Given};
 use crate::row::Row;
 use rml_base::Memory;
@@ -11,8 +13,37 @@ use rml_value::{Value, copy, copy_all, list_of};
 use sqlite_items::at;
 use std::alloc::Global;
 
-/// The item at an index, from 0.
-pub fn nth(alloc: Global, items: &[Value], n: i64, bindings: Bindings) -> Result<Given, Memory>
+pub fn of_list(alloc: Global, args: &[Value], bindings: Bindings) -> Result<Given, Memory>
+    ensures { IfOk result (λ g. g ≡ built_in Row.ListVector args.now bindings) }
+{
+    match one_list(alloc, args)? {
+        Some(items) => answer_one(alloc, Value::Vector(items), bindings),
+        None => Ok(Given::Wrong),
+    }
+}
+
+pub fn list(alloc: Global, args: &[Value], bindings: Bindings) -> Result<Given, Memory>
+    ensures { IfOk result (λ g. g ≡ built_in Row.VectorList args.now bindings) }
+{
+    match args {
+        [Value::Vector(items)] => {
+            let copies = copy_all(alloc, items.as_slice())?;
+            answer_one(alloc, list_of(alloc, copies)?, bindings)
+        }
+        _ => Ok(Given::Wrong),
+    }
+}
+
+pub fn length(alloc: Global, args: &[Value], bindings: Bindings) -> Result<Given, Memory>
+    ensures { IfOk result (λ g. g ≡ built_in Row.VectorLength args.now bindings) }
+{
+    match args {
+        [Value::Vector(items)] => length_in_range(alloc, items.len(), bindings),
+        _ => Ok(Given::Wrong),
+    }
+}
+
+fn item_at(alloc: Global, items: &[Value], n: i64, bindings: Bindings) -> Result<Given, Memory>
     ensures { IfOk result (λ g. g ≡ nth_item items.now n bindings) }
 {
     if n < 0 {
@@ -24,27 +55,11 @@ pub fn nth(alloc: Global, items: &[Value], n: i64, bindings: Bindings) -> Result
     }
 }
 
-/// The rows over one vector.
-pub fn over_one_vector(
-    alloc: Global,
-    row: Row,
-    items: &[Value],
-    bindings: Bindings,
-) -> Result<Given, Memory>
-    ensures { IfOk result (λ g. g ≡ over_vector row items.now bindings) }
+pub fn nth(alloc: Global, args: &[Value], bindings: Bindings) -> Result<Given, Memory>
+    ensures { IfOk result (λ g. g ≡ built_in Row.VectorNth args.now bindings) }
 {
-    match row {
-        Row::VectorList => {
-            let copies = copy_all(alloc, items)?;
-            answer_one(alloc, list_of(alloc, copies)?, bindings)
-        }
-        Row::VectorLength => {
-            if items.len() < 1 << 30 {
-                ranged(alloc, items.len() as i64, bindings)
-            } else {
-                Ok(Given::No)
-            }
-        }
+    match args {
+        [Value::Vector(items), Value::Int(n)] => item_at(alloc, items.as_slice(), *n, bindings),
         _ => Ok(Given::Wrong),
     }
 }

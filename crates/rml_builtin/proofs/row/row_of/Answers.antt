@@ -1,4 +1,3 @@
-use Rattle.std.proofs.Common.{rules}
 use Rattle.std.proofs.lemmas.Option.{slice_get-get_or}
 use Rattle.rml_builtin.specs.declared.row.TheConstants.{ROWS}
 use Rattle.rml_builtin.proofs.row.row_of.Goals as goal
