@@ -36,14 +36,14 @@ module _ (end : Place) (n k : ℕ) (us : List Spot) where
       let i : IsUnexpected (suc (length tail)) (whole_text end n k (c ++ x ∷ tail)) = subst (λ (vs : List Spot). IsUnexpected (suc (length tail)) (whole_text end n k vs)) cut h in
       placed end at n k c tail other x t i d
 
-  fault-at : (p : Place) (f : Fault) → whole_text end n k us ≡ Err f → f.kind ≡ kind.Unexpected → p ≡ place_left end f.left us → IsUnexpectedAt end us p f.left
-  fault-at p f e u is = record { within = whole-within end n k us f e; place = is; none = no-text f e u }
+  pub unexpected-at : (p : Place) (f : Fault) → whole_text end n k us ≡ Err f → f.kind ≡ kind.Unexpected → p ≡ place_left end f.left us → IsUnexpectedAt end us p f.left
+  unexpected-at p f e u is = record { within = whole-within end n k us f e; place = is; none = no-text f e u }
 
   placed-err : (e : ParseErr) → SaysErr end us e (whole_text end n k us) → PlacedErr end us e
   placed-err error.Memory h = tt
   placed-err (error.At p kind.TooDeep) h = tt
   placed-err (error.At p kind.TooManyRules) h = tt
-  placed-err (error.At p kind.Unexpected) h = (h.0.left, fault-at p h.0 h.1 (sym h.3) h.2)
+  placed-err (error.At p kind.Unexpected) h = (h.0.left, unexpected-at p h.0 h.1 (sym h.3) h.2)
 
   pub placed-of : (r : Result Text ParseErr) → Says end us r (whole_text end n k us) → IsPlaced end us r
   placed-of (Ok t) h = tt
