@@ -1,3 +1,4 @@
+pub mod Begins
 pub mod Facts
 pub mod Rounds
 pub mod Variables

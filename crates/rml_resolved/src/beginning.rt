@@ -1,9 +1,9 @@
 //! What every program's tables begin with.
 
-ghost use Rattle.std.specs.Prelude.{◌≡◌, ◌&&◌, ◌==◌};
+ghost use Rattle.std.specs.Prelude.{◌≡◌, ◌&&◌, ◌==◌, map, drop, length};
 ghost use Rattle.std.specs.List.{list_all};
 ghost use Rattle.rml_types.specs.declared.tree.SchemeTree.{out-SchemeTree};
-ghost use Rattle.rml_resolved.specs.Beginning.{is_name, in_prelude, is_known_type, types_begin, no_arguments, one_argument, head_and_tail, is_known_con, is_further, cons_begin, is_known_relation, relations_go_on, relations_begin};
+ghost use Rattle.rml_resolved.specs.Beginning.{begins, is_name, in_prelude, is_known_type, known_types, types_begin, no_arguments, one_argument, head_and_tail, are_arguments, is_known_con, known_cons, is_further, cons_begin, is_known_relation, known_relations, relations_begin};
 
 use crate::tables::{ConDef, RelDef, TypeDef};
 use crate::typing::{is_over_variables, is_variable};
@@ -22,7 +22,7 @@ fn names(names: &[Bytes], bytes: &str, k: u32) -> bool
 }
 
 fn is_type(all: &[Bytes], name: &str, count: u32, def: &TypeDef) -> bool
-    ensures { result ≡ is_known_type all.now name.now count def.now }
+    ensures { result ≡ is_known_type all.now (name.now, count) def.now }
 {
     names(all, "rml", def.module)
         && names(all, name, def.name)
@@ -30,23 +30,46 @@ fn is_type(all: &[Bytes], name: &str, count: u32, def: &TypeDef) -> bool
         && def.means.is_none()
 }
 
+/// The name of each type, and how many arguments it takes.
+const TYPES: [(&str, u32); 8] = [
+    ("int", 0),
+    ("char", 0),
+    ("string", 0),
+    ("list", 1),
+    ("lvar", 1),
+    ("vector", 1),
+    ("bool", 0),
+    ("option", 1),
+];
+
+fn begin_types(all: &[Bytes], expected: &[(&str, u32)], types: &[TypeDef]) -> bool
+    ensures { result ≡ begins (is_known_type all.now) (map (λ k. (k.0.now, k.1)) expected.now) types.now }
+{
+    match (expected, types) {
+        ([], _) => true,
+        ([(name, count), expected @ ..], [def, types @ ..]) => {
+            is_type(all, *name, *count, def) && begin_types(all, expected, types)
+        }
+        ([_, ..], []) => false,
+    }
+}
+
 /// Whether the built-in types come first, and then those of the prelude.
+#[tactic(auto, unfolding(crate::specs::Beginning::types_begin))]
 pub fn do_types_begin(all: &[Bytes], types: &[TypeDef]) -> bool
     ensures { result ≡ types_begin all.now types.now }
 {
-    match types {
-        [int, char, string, list, lvar, vector, bool, option, ..] => {
-            is_type(all, "int", 0, int)
-                && is_type(all, "char", 0, char)
-                && is_type(all, "string", 0, string)
-                && is_type(all, "list", 1, list)
-                && is_type(all, "lvar", 1, lvar)
-                && is_type(all, "vector", 1, vector)
-                && is_type(all, "bool", 0, bool)
-                && is_type(all, "option", 1, option)
-        }
-        _ => false,
-    }
+    begin_types(all, &TYPES, types)
+}
+
+/// The arguments of a constructor.
+#[derive(Clone, Copy, Debug, PartialEq, Eq)]
+pub enum Arguments {
+    Nothing,
+    /// The first parameter of the datatype.
+    Parameter,
+    /// That, and a list of it.
+    HeadAndTail,
 }
 
 fn takes_nothing(tree: &SchemeTree) -> bool
@@ -82,43 +105,57 @@ fn takes_head_and_tail(tree: &SchemeTree) -> bool
     }
 }
 
-fn is_con(all: &[Bytes], name: &str, of: u32, def: &ConDef) -> bool
-    ensures { result ≡ (is_name all.now name.now def.now.name && def.now.of == of) }
+fn do_take(arguments: Arguments, tree: &SchemeTree) -> bool
+    ensures { result ≡ are_arguments arguments (out-SchemeTree tree.now) }
 {
-    names(all, name, def.name) && def.of == of
+    match arguments {
+        Arguments::Nothing => takes_nothing(tree),
+        Arguments::Parameter => takes_parameter(tree),
+        Arguments::HeadAndTail => takes_head_and_tail(tree),
+    }
 }
 
-fn is_plain_con(all: &[Bytes], name: &str, of: u32, def: &ConDef) -> bool
-    ensures { result ≡ is_known_con all.now name.now of no_arguments def.now }
+fn is_con(all: &[Bytes], name: &str, of: u32, arguments: Arguments, def: &ConDef) -> bool
+    ensures { result ≡ is_known_con all.now (name.now, of, arguments) def.now }
 {
-    is_con(all, name, of, def) && takes_nothing(&def.scheme.body)
+    names(all, name, def.name) && def.of == of && do_take(arguments, &def.scheme.body)
+}
+
+/// The name of each constructor, its datatype and its arguments.
+const CONS: [(&str, u32, Arguments); 6] = [
+    ("nil", LIST, Arguments::Nothing),
+    ("::", LIST, Arguments::HeadAndTail),
+    ("false", BOOL, Arguments::Nothing),
+    ("true", BOOL, Arguments::Nothing),
+    ("NONE", OPTION, Arguments::Nothing),
+    ("SOME", OPTION, Arguments::Parameter),
+];
+
+fn begin_cons(all: &[Bytes], expected: &[(&str, u32, Arguments)], cons: &[ConDef]) -> bool
+    ensures { result ≡ begins (is_known_con all.now) (map (λ k. (k.0.now, k.1, k.2)) expected.now) cons.now }
+{
+    match (expected, cons) {
+        ([], _) => true,
+        ([(name, of, arguments), expected @ ..], [def, cons @ ..]) => {
+            is_con(all, *name, *of, *arguments, def) && begin_cons(all, expected, cons)
+        }
+        ([_, ..], []) => false,
+    }
 }
 
 fn are_further(cons: &[ConDef]) -> bool
-    ensures { result ≡ list_all is_further cons.now }
+    ensures { result ≡ list_all is_further (drop (length known_cons) cons.now) }
 {
-    cons.iter().all(|def| 8 <= def.of)
+    cons.iter().skip(CONS.len()).all(|def| 8 <= def.of)
 }
 
 /// Whether the constructors of lists, truth values and options come first, and no further one gives a type of these or a
 /// built-in one.
+#[tactic(auto, unfolding(crate::specs::Beginning::cons_begin))]
 pub fn do_cons_begin(all: &[Bytes], cons: &[ConDef]) -> bool
     ensures { result ≡ cons_begin all.now cons.now }
 {
-    match cons {
-        [nil, cons, no, yes, none, some, further @ ..] => {
-            is_plain_con(all, "nil", LIST, nil)
-                && is_con(all, "::", LIST, cons)
-                && takes_head_and_tail(&cons.scheme.body)
-                && is_plain_con(all, "false", BOOL, no)
-                && is_plain_con(all, "true", BOOL, yes)
-                && is_plain_con(all, "NONE", OPTION, none)
-                && is_con(all, "SOME", OPTION, some)
-                && takes_parameter(&some.scheme.body)
-                && are_further(further)
-        }
-        _ => false,
-    }
+    begin_cons(all, &CONS, cons) && are_further(cons)
 }
 
 fn is_relation(all: &[Bytes], name: &str, rel: &RelDef) -> bool
@@ -127,34 +164,36 @@ fn is_relation(all: &[Bytes], name: &str, rel: &RelDef) -> bool
     names(all, "rml", rel.module) && names(all, name, rel.name)
 }
 
-fn do_relations_go_on(all: &[Bytes], rels: &[RelDef]) -> bool
-    ensures { result ≡ relations_go_on all.now rels.now }
+/// The names of the prelude's public relations, and of its private one.
+const RELATIONS: [&str; 10] = [
+    "bool_and",
+    "bool_or",
+    "bool_not",
+    "list_append",
+    "list_reverse",
+    "list_length",
+    "list_member",
+    "list_nth",
+    "list_delete",
+    "list_turn",
+];
+
+fn begin_relations(all: &[Bytes], expected: &[&str], rels: &[RelDef]) -> bool
+    ensures { result ≡ begins (is_known_relation all.now) (map (λ k. k.now) expected.now) rels.now }
 {
-    match rels {
-        [length, member, nth, delete, turn, ..] => {
-            is_relation(all, "list_length", length)
-                && is_relation(all, "list_member", member)
-                && is_relation(all, "list_nth", nth)
-                && is_relation(all, "list_delete", delete)
-                && is_relation(all, "list_turn", turn)
+    match (expected, rels) {
+        ([], _) => true,
+        ([name, expected @ ..], [rel, rels @ ..]) => {
+            is_relation(all, *name, rel) && begin_relations(all, expected, rels)
         }
-        _ => false,
+        ([_, ..], []) => false,
     }
 }
 
 /// Whether the relations of the prelude come first.
+#[tactic(auto, unfolding(crate::specs::Beginning::relations_begin))]
 pub fn do_relations_begin(all: &[Bytes], rels: &[RelDef]) -> bool
     ensures { result ≡ relations_begin all.now rels.now }
 {
-    match rels {
-        [both, either, not, append, reverse, further @ ..] => {
-            is_relation(all, "bool_and", both)
-                && is_relation(all, "bool_or", either)
-                && is_relation(all, "bool_not", not)
-                && is_relation(all, "list_append", append)
-                && is_relation(all, "list_reverse", reverse)
-                && do_relations_go_on(all, further)
-        }
-        _ => false,
-    }
+    begin_relations(all, &RELATIONS, rels)
 }
