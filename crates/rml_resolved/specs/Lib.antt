@@ -1,5 +1,6 @@
 pub mod Fits
 pub mod Binding
+pub mod Bound
 pub mod Size
 pub mod Circles
 pub mod Typing

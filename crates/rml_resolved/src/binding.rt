@@ -2,46 +2,34 @@
 
 ghost use Rattle.std.specs.Prelude.{◌≡◌, ◌++◌, IfOk, [], map};
 ghost use Rattle.std.specs.List.{list_all, concat};
-ghost use Rattle.rml_resolved.specs.Binding.{contains as contains_of, binds, all_bind, goal_binds, rule_binds, is_distinct, binds_once, relation_binds_once, uses, all_use, callee_uses, can_use as can_use_of, use_then_bind, after_goal as after_goal_of, after_goals as after_goals_of, before_results, uses_bound, relation_uses_bound};
+ghost use Rattle.rml_resolved.specs.Binding.{binds, all_bind, goal_binds, rule_binds, is_distinct, binds_once, relation_binds_once, uses, all_use, callee_uses, can_use as can_use_of, use_then_bind, after_goal as after_goal_of, after_goals as after_goals_of, before_results, uses_bound, relation_uses_bound};
 
+use crate::bound::Bound;
 use crate::tables::{RRule, RelDef};
 use crate::trees::{Callee, RExp, RGoal, RPat};
 use rml_base::Memory;
 use sqlite_items::Items;
 use std::alloc::Global;
 
-fn contains(x: u32, xs: &[u32]) -> bool
-    ensures { result ≡ contains_of x xs.now }
-{
-    xs.iter().any(|y| x == *y)
-}
-
 /// The variables of `all`, and then those that a pattern binds, from left to right.
 #[cycle(patterns)]
-fn with_bound(pattern: &RPat, all: Items<u32>) -> Result<Items<u32>, Memory>
+fn with_bound(pattern: &RPat, all: Bound) -> Result<Bound, Memory>
     ensures { IfOk result (λ r. r ≡ all ++ binds pattern.now) }
 {
-    let mut all = all;
     match pattern {
         RPat::Any => Ok(all),
         RPat::Lit(_) => Ok(all),
-        RPat::Var(x) => {
-            all.push(*x)?;
-            Ok(all)
-        }
+        RPat::Var(x) => Ok(all.with(*x)?),
         RPat::Con(_, ps) => with_all_bound(ps.as_slice(), all),
         RPat::Tuple(ps) => with_all_bound(ps.as_slice(), all),
         RPat::List(ps) => with_all_bound(ps.as_slice(), all),
         RPat::Cons(ps) => with_all_bound(ps.as_slice(), all),
-        RPat::Bind(x, inner) => {
-            all.push(*x)?;
-            with_bound(inner.get(), all)
-        }
+        RPat::Bind(x, inner) => with_bound(inner.get(), all.with(*x)?),
     }
 }
 
 #[cycle(patterns)]
-fn with_all_bound(patterns: &[RPat], all: Items<u32>) -> Result<Items<u32>, Memory>
+fn with_all_bound(patterns: &[RPat], all: Bound) -> Result<Bound, Memory>
     ensures { IfOk result (λ r. r ≡ all ++ all_bind patterns.now) }
 {
     let mut all = all;
@@ -53,7 +41,7 @@ fn with_all_bound(patterns: &[RPat], all: Items<u32>) -> Result<Items<u32>, Memo
 
 /// The variables of `all`, and then those that a goal binds.
 #[cycle(bindings)]
-fn with_goal_bound(goal: &RGoal, all: Items<u32>) -> Result<Items<u32>, Memory>
+fn with_goal_bound(goal: &RGoal, all: Bound) -> Result<Bound, Memory>
     ensures { IfOk result (λ r. r ≡ all ++ goal_binds goal.now) }
 {
     match goal {
@@ -66,7 +54,7 @@ fn with_goal_bound(goal: &RGoal, all: Items<u32>) -> Result<Items<u32>, Memory>
 }
 
 #[cycle(bindings)]
-fn with_goals_bound(goals: &[RGoal], all: Items<u32>) -> Result<Items<u32>, Memory>
+fn with_goals_bound(goals: &[RGoal], all: Bound) -> Result<Bound, Memory>
     ensures { IfOk result (λ r. r ≡ all ++ concat (map goal_binds goals.now)) }
 {
     let mut all = all;
@@ -76,29 +64,31 @@ fn with_goals_bound(goals: &[RGoal], all: Items<u32>) -> Result<Items<u32>, Memo
     Ok(all)
 }
 
-fn variables_of(alloc: Global, rule: &RRule) -> Result<Items<u32>, Memory>
+fn variables_of(alloc: Global, rule: &RRule) -> Result<Bound, Memory>
     ensures { IfOk result (λ r. r ≡ rule_binds rule.now) }
 {
-    let in_head = with_all_bound(rule.inputs.as_slice(), Items::new(alloc))?;
+    let in_head = with_all_bound(rule.inputs.as_slice(), Bound::new(alloc))?;
     with_goals_bound(rule.goals.as_slice(), in_head)
 }
 
-fn are_distinct(xs: &[u32]) -> bool
-    ensures { result ≡ is_distinct xs.now }
+fn are_distinct(alloc: Global, xs: &[u32]) -> Result<bool, Memory>
+    ensures { IfOk result (λ b. b ≡ is_distinct xs.now) }
 {
-    for (i, x) in xs.iter().enumerate() {
-        if contains(*x, &xs[i + 1..]) {
-            return false;
+    let mut seen = Bound::new(alloc);
+    for x in xs {
+        if seen.has(*x) {
+            return Ok(false);
         }
+        seen = seen.with(*x)?;
     }
-    true
+    Ok(true)
 }
 
 fn is_each_bound_once(alloc: Global, rule: &RRule) -> Result<bool, Memory>
     ensures { IfOk result (λ b. b ≡ binds_once rule.now) }
 {
     let variables = variables_of(alloc, rule)?;
-    Ok(are_distinct(variables.as_slice()) && variables.len() == rule.vars as usize)
+    Ok(are_distinct(alloc, variables.as_slice())? && variables.len() == rule.vars as usize)
 }
 
 fn is_relation_bound_once(alloc: Global, rel: &RelDef) -> Result<bool, Memory>
@@ -169,10 +159,10 @@ fn callee_variables(alloc: Global, callee: Callee) -> Result<Items<u32>, Memory>
     }
 }
 
-fn can_use(xs: &[u32], bound: &[u32]) -> bool
+fn can_use(xs: &[u32], bound: &Bound) -> bool
     ensures { result ≡ can_use_of xs.now bound.now }
 {
-    xs.iter().all(|x| contains(*x, bound))
+    xs.iter().all(|x| bound.has(*x))
 }
 
 fn after_call(
@@ -180,44 +170,34 @@ fn after_call(
     callee: Callee,
     exps: &[RExp],
     patterns: &[RPat],
-    bound: Items<u32>,
-) -> Result<Option<Items<u32>>, Memory>
+    bound: Bound,
+) -> Result<Option<Bound>, Memory>
     ensures { IfOk result (λ b. b ≡ use_then_bind (callee_uses callee ++ all_use exps.now) (all_bind patterns.now) bound) }
 {
     let used = with_all_used(exps, callee_variables(alloc, callee)?)?;
-    if can_use(used.as_slice(), bound.as_slice()) {
+    if can_use(used.as_slice(), &bound) {
         Ok(Some(with_all_bound(patterns, bound)?))
     } else {
         Ok(None)
     }
 }
 
-fn after_equal(
-    alloc: Global,
-    a: &RExp,
-    b: &RExp,
-    bound: Items<u32>,
-) -> Result<Option<Items<u32>>, Memory>
+fn after_equal(alloc: Global, a: &RExp, b: &RExp, bound: Bound) -> Result<Option<Bound>, Memory>
     ensures { IfOk result (λ r. r ≡ use_then_bind (uses a.now ++ uses b.now) [] bound) }
 {
     let used = with_used(b, with_used(a, Items::new(alloc))?)?;
-    if can_use(used.as_slice(), bound.as_slice()) {
+    if can_use(used.as_slice(), &bound) {
         Ok(Some(bound))
     } else {
         Ok(None)
     }
 }
 
-fn after_let(
-    alloc: Global,
-    p: &RPat,
-    e: &RExp,
-    bound: Items<u32>,
-) -> Result<Option<Items<u32>>, Memory>
+fn after_let(alloc: Global, p: &RPat, e: &RExp, bound: Bound) -> Result<Option<Bound>, Memory>
     ensures { IfOk result (λ r. r ≡ use_then_bind (uses e.now) (binds p.now) bound) }
 {
     let used = with_used(e, Items::new(alloc))?;
-    if can_use(used.as_slice(), bound.as_slice()) {
+    if can_use(used.as_slice(), &bound) {
         Ok(Some(with_bound(p, bound)?))
     } else {
         Ok(None)
@@ -226,7 +206,7 @@ fn after_let(
 
 /// What is bound after a goal, or None where it uses what is not.
 #[cycle(goals)]
-fn after_goal(alloc: Global, goal: &RGoal, bound: Items<u32>) -> Result<Option<Items<u32>>, Memory>
+fn after_goal(alloc: Global, goal: &RGoal, bound: Bound) -> Result<Option<Bound>, Memory>
     ensures { IfOk result (λ b. b ≡ after_goal_of goal.now bound) }
 {
     match goal {
@@ -236,9 +216,9 @@ fn after_goal(alloc: Global, goal: &RGoal, bound: Items<u32>) -> Result<Option<I
         RGoal::Equal(a, b) => after_equal(alloc, a, b, bound),
         RGoal::Let(p, e) => after_let(alloc, p, e, bound),
         RGoal::Not(inner) => {
-            let outside = Items::from_slice(alloc, bound.as_slice())?;
+            let outside = bound.len();
             match after_goal(alloc, inner.get(), bound)? {
-                Some(_) => Ok(Some(outside)),
+                Some(inside) => Ok(Some(inside.cut(outside))),
                 None => Ok(None),
             }
         }
@@ -247,11 +227,7 @@ fn after_goal(alloc: Global, goal: &RGoal, bound: Items<u32>) -> Result<Option<I
 }
 
 #[cycle(goals)]
-fn after_goals(
-    alloc: Global,
-    goals: &[RGoal],
-    bound: Items<u32>,
-) -> Result<Option<Items<u32>>, Memory>
+fn after_goals(alloc: Global, goals: &[RGoal], bound: Bound) -> Result<Option<Bound>, Memory>
     ensures { IfOk result (λ b. b ≡ after_goals_of goals.now bound) }
 {
     let mut bound = bound;
@@ -264,10 +240,10 @@ fn after_goals(
     Ok(Some(bound))
 }
 
-fn bound_before_results(alloc: Global, rule: &RRule) -> Result<Option<Items<u32>>, Memory>
+fn bound_before_results(alloc: Global, rule: &RRule) -> Result<Option<Bound>, Memory>
     ensures { IfOk result (λ b. b ≡ before_results rule.now) }
 {
-    let in_head = with_all_bound(rule.inputs.as_slice(), Items::new(alloc))?;
+    let in_head = with_all_bound(rule.inputs.as_slice(), Bound::new(alloc))?;
     after_goals(alloc, rule.goals.as_slice(), in_head)
 }
 
@@ -277,7 +253,7 @@ fn is_each_used_after(alloc: Global, rule: &RRule) -> Result<bool, Memory>
     match bound_before_results(alloc, rule)? {
         Some(bound) => {
             let used = with_all_used(rule.results.as_slice(), Items::new(alloc))?;
-            Ok(can_use(used.as_slice(), bound.as_slice()))
+            Ok(can_use(used.as_slice(), &bound))
         }
         None => Ok(false),
     }

@@ -5,6 +5,7 @@
 
 mod beginning;
 mod binding;
+mod bound;
 mod checked;
 mod circles;
 mod fits;
