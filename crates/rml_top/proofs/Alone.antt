@@ -25,15 +25,15 @@ pub passes-on : {X Y : Type 0} (P : Refusal → Type 0) (f : X → Y) (given : R
 passes-on P f (Ok x) result h ok err = subst (λ r. IfErr r P) (sym ok) tt
 passes-on P f (Err why) result h ok err = subst (λ r. IfErr r P) (sym err) h
 
-one-text : (texts : List (List ℕ)) (a b : List ℕ) → texts ≡ a ∷ [] → texts ≡ b ∷ [] → a ≡ b
-one-text texts a b e f = ap (λ (ts : List (List ℕ)). elim ts [ [] ↦ a | t ∷ ts ↦ t ]) (sym e ∙ f)
+pub only-text : (texts : List (List ℕ)) (a b : List ℕ) → texts ≡ a ∷ [] → texts ≡ b ∷ [] → a ≡ b
+only-text texts a b e f = ap (λ (ts : List (List ℕ)). elim ts [ [] ↦ a | t ∷ ts ↦ t ]) (sym e ∙ f)
 
 -- a text that is none of the first form prints nothing
 pub prints-none : {X E : Type 0} (texts : List (List ℕ)) (bytes : List ℕ) (result : Result (Option X) E) → texts ≡ bytes ∷ [] → IfOk result (λ found. IfNone found ((text : List ℕ) → ¬ IsText bytes text))
     → IfOk result (λ found. IfNone found ((out : List ℕ) → ¬ PrintsFirst texts out))
 prints-none texts bytes (Err x) e none = tt
 prints-none texts bytes (Ok (Some x)) e none = tt
-prints-none texts bytes (Ok None) e none = λ out p. none out (subst (λ (b : List ℕ). IsText b out) (one-text texts p.0 bytes p.1 e) p.2)
+prints-none texts bytes (Ok None) e none = λ out p. none out (subst (λ (b : List ℕ). IsText b out) (only-text texts p.0 bytes p.1 e) p.2)
 
 pub no-alone : (texts : List (List ℕ)) → (length texts ≡ 1 → ⊥) → (out : List ℕ) → ¬ PrintsFirst texts out
 no-alone texts many out p = many (ap length p.1)

@@ -10,19 +10,19 @@ use Rattle.rml_top.specs.Sources.{AreHeld, total, AreTexts, IsReached, IsTooLong
 
 -- an end: a file that is not held, one that is too long, one with which all are too long, or all read
 pub data End : Type 0 where
-  Missing : End
+  Missing : ℕ → End
   Long : ℕ → End
   Over : ℕ → End
   Read : List (List ℕ) → End
 
 abbrev behind : List ℕ → End → End
-behind text Missing = Missing
+behind text (Missing k) = Missing k
 behind text (Long k) = Long k
 behind text (Over k) = Over k
 behind text (Read texts) = Read (text ∷ texts)
 
 abbrev one : Option (List ℕ) → ℕ → ℕ → (ℕ → End) → End
-one None bytes k rest = Missing
+one None bytes k rest = Missing k
 one (Some text) bytes k rest = if nat_lt 1048576 (length text) then Long k else (if nat_lt 4194304 (bytes + length text) then Over k else behind text (rest (bytes + length text)))
 
 -- the end of reading the names, of which the first has the number k, behind texts with so many bytes
@@ -30,10 +30,10 @@ abbrev pub walk : Held → ℕ → ℕ → List (List ℕ) → End
 walk files bytes k [] = Read []
 walk files bytes k (name ∷ names) = one (fin_map.get files name) bytes k (λ more. walk files more (suc k) names)
 
-abbrev Short : List ℕ → Type 0
+abbrev pub Short : List ℕ → Type 0
 Short text = length text ≤ 1048576
 
-head-short : (text : List ℕ) (texts : List (List ℕ)) → All Short (text ∷ texts) → Short text
+pub head-short : (text : List ℕ) (texts : List (List ℕ)) → All Short (text ∷ texts) → Short text
 head-short text texts a = a 0 [] (omega arith)
 
 tail-short : (text : List ℕ) (texts : List (List ℕ)) → All Short (text ∷ texts) → All Short texts
@@ -108,3 +108,6 @@ long-walk files names number r l = reached-walk files names number r (Long numbe
 
 pub total-walk : (files : Held) (names : List (List ℕ)) (number : ℕ) (r : IsReached (Some files) names number) → PassTotal (Some files) r.texts r.name → walk files 0 0 names ≡ Over number
 total-walk files names number r p = reached-walk files names number r (Over number) (λ t. refl) (too-many (fin_map.get files r.name) p.0 (total r.texts) number (λ b. walk files b (suc number) r.after) p.1 p.2 p.3)
+
+pub missing-walk : (files : Held) (names : List (List ℕ)) (number : ℕ) (r : IsReached (Some files) names number) → fin_map.get files r.name ≡ None → walk files 0 0 names ≡ Missing number
+missing-walk files names number r e = reached-walk files names number r (Missing number) (λ t. refl) (ap (λ (held : Option (List ℕ)). one held (total r.texts) number (λ b. walk files b (suc number) r.after)) e)

@@ -240,7 +240,7 @@ ends-is ts e = elim (after_one is_dashes ts) as (λ v. after_one is_dashes ts �
       (one.0, one.1 ∙ ap (λ (x : List (List ℕ)). one.0 ∷ x) is, one.2))
 ] refl e
 
-some-is : (a b : List (List ℕ)) → Some a ≡ Some b → a ≡ b
+pub some-is : (a b : List (List ℕ)) → Some a ≡ Some b → a ≡ b
 some-is a b e = cc
 
 pub form-is : (tokens literals : List (List ℕ)) → literals_in tokens ≡ Some literals → IsFirstForm tokens literals

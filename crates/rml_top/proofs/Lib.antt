@@ -14,3 +14,4 @@ pub mod Fits
 pub mod Derived
 pub mod Accepted
 pub mod FirstDue
+pub mod EachDue

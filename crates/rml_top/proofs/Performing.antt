@@ -140,16 +140,17 @@ stopped-so w asks not_read.Memory b out s = record {
 -- ---- the texts were read
 
 -- a limit that a text passes inside
-abbrev IsInside : Option Place → Which → Type 0
+abbrev pub IsInside : Option Place → Which → Type 0
 IsInside None passed = ⊥
 IsInside (Some p) which.Bytes = ⊥
 IsInside (Some p) which.Total = ⊥
 IsInside (Some p) passed = Unit {0}
 
-abbrev IsInsideOf : Refusal → Type 0
+-- so of what a text is refused for, which is never want of memory
+abbrev pub IsInsideOf : Refusal → Type 0
 IsInsideOf (refusal.Limit place passed) = IsInside place passed
 IsInsideOf (refusal.Syntax place kind) = Unit {0}
-IsInsideOf refusal.Memory = Unit {0}
+IsInsideOf refusal.Memory = ⊥
 
 misspelled-inside : (place : Place) (kind : LexKind) → IsInsideOf (misspelled place kind)
 misspelled-inside place lexical.BadByte = tt
@@ -169,7 +170,7 @@ refused-inside : (number : ℕ) (bytes : List ℕ) (old : List (List ℕ)) (why 
 refused-inside number bytes old why (is_misspelled place kind f e) = subst IsInsideOf (sym e) (misspelled-inside place kind)
 refused-inside number bytes old why (is_underived spots new place kind s st e) = subst IsInsideOf (sym e) (underived-inside place kind)
 
-inside : (texts : List (List ℕ)) (why : Refusal) → Refuses texts why → IsInsideOf why
+pub inside : (texts : List (List ℕ)) (why : Refusal) → Refuses texts why → IsInsideOf why
 inside texts why r = refused-inside (0 + length r.before) r.text r.new why r.refused
 
 inside-reads : (names : ℕ) (place : Option Place) (passed : Which) → IsInside place passed → read_by names (Limit place passed) ≡ names

@@ -10,7 +10,7 @@ use Rattle.rml_lex.specs.declared.piece.Piece.{Piece}
 use Rattle.rml_lex.specs.declared.piece.Piece.TheVariants as piece
 use Rattle.rml_top.specs.Text.{is_blank, is_comment, is_refused, spellings, HasTokens}
 
-abbrev no_comment : Part → Bool
+abbrev pub no_comment : Part → Bool
 no_comment p = not (is_comment p.1)
 
 -- what has been read: pieces, none a comment, and their tokens

@@ -1,12 +1,12 @@
 -- What literals stand for, one after the other.
-use Rattle.std.proofs.Common.{◌≡◌, ℕ, suc, ◌+◌, ◌<◌, List, [], ◌∷◌, ◌++◌, length, drop, true, false, Some, subst, get_or, flat_map, refl, sym, ap, ◌∙◌, append_assoc, add-one, drop-cons}
+use Rattle.std.proofs.Common.{◌≡◌, ℕ, suc, ◌+◌, ◌<◌, List, [], ◌∷◌, ◌++◌, length, drop, true, false, subst, get_or, flat_map, refl, sym, ap, ◌∙◌, append_assoc, add-one, drop-cons}
 use Rattle.std.proofs.lemmas.List.{drop-map}
 use Rattle.std.specs.Borrow.{Bor}
 use Rattle.std.specs.List.{list_all}
 use Rattle.rml_lex.specs.Character.{unescaped}
 use Rattle.rml_top.specs.FirstForm.{spelled, IsFirstForm}
 use Rattle.rml_top.specs.Text.{HasTokens, IsText, is_simple}
-use Rattle.rml_top.proofs.Form.{form-found}
+use Rattle.rml_top.proofs.Form.{form-found, some-is}
 use Rattle.rml_top.proofs.Pieces.{same-tokens}
 
 -- one literal more
@@ -25,10 +25,7 @@ pub all-spelled : (literals : List (Bor (List ℕ))) → list_all (λ l. is_simp
 all-spelled [] = refl
 all-spelled (l ∷ ls) = rw (all-spelled ls) refl
 
-some-is : (a b : List (List ℕ)) → Some a ≡ Some b → a ≡ b
-some-is a b e = cc
-
-same-literals : (tokens a b : List (List ℕ)) → IsFirstForm tokens a → IsFirstForm tokens b → a ≡ b
+pub same-literals : (tokens a b : List (List ℕ)) → IsFirstForm tokens a → IsFirstForm tokens b → a ≡ b
 same-literals tokens a b f g = some-is a b (sym (form-found tokens a f) ∙ form-found tokens b g)
 
 pub no-form : (bytes : List ℕ) (tokens : List (List ℕ)) → HasTokens bytes tokens → ((literals : List (List ℕ)) → ¬ IsFirstForm tokens literals) → (text : List ℕ) → ¬ IsText bytes text

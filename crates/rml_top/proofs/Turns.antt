@@ -56,7 +56,7 @@ held-more held (n ∷ ns) (t ∷ ts) name text a h = (a.0, held-more held ns ts 
 all-one : {X : Type 0} (P : X → Type 0) (x : X) → P x → All P (x ∷ [])
 all-one P x p = search rules
 
-texts-more : (held : Option Held) (names texts : List (List ℕ)) (name text : List ℕ) → AreTexts held names texts → IsHeld held name text → length text ≤ 1048576 → total texts + length text ≤ 4194304
+pub texts-more : (held : Option Held) (names texts : List (List ℕ)) (name text : List ℕ) → AreTexts held names texts → IsHeld held name text → length text ≤ 1048576 → total texts + length text ≤ 4194304
     → AreTexts held (names ++ name ∷ []) (texts ++ text ∷ [])
 texts-more held names texts name text t h fit sum = record {
   are_held = held-more held names texts name text t.are_held h;
@@ -66,6 +66,9 @@ texts-more held names texts name text t h fit sum = record {
   };
 }
 
+pub no-texts : (held : Option Held) → AreTexts held [] []
+no-texts held = record { are_held = tt; within = record { each = All-nil (λ (x : List ℕ). length x ≤ 1048576); together = omega arith } }
+
 -- ---- the loop
 
 pub read-nothing : (names : List (List ℕ)) (seen : Seen) → ReadTo names 0 0 seen seen []
@@ -73,7 +76,7 @@ read-nothing names seen = record {
   within = omega arith;
   held_is = refl;
   names_are = refl;
-  texts = record { are_held = tt; within = record { each = All-nil (λ (x : List ℕ). length x ≤ 1048576); together = omega arith } };
+  texts = no-texts seen.held;
   bytes_are = refl;
   have_read = record { asked = told-nothing seen.asked; calls = refl };
   taken = omega arith;

@@ -20,24 +20,24 @@ use Rattle.rml_stages.specs.declared.refusal.Which.{Which}
 use Rattle.rml_stages.specs.declared.refusal.Which.TheVariants as which
 use Rattle.rml_stages.proofs.OneReading.{same-spots, one-text}
 use Rattle.rml_stages.proofs.OneReadingOfAll.{one-first-refusal, not-both-of-all}
-use Rattle.rml_top.specs.Due.{AreAccepted, Outputs, PrintsFirst, Refuses, IsDue, usage, unbuilt_command, many_texts, many_arguments, long_text, long_texts, limit, syntax_fault, done, unbuilt}
+use Rattle.rml_top.specs.Due.{AreAccepted, Outputs, PrintsFirst, Refuses, IsDue, IsMissing, usage, unbuilt_command, many_texts, many_arguments, long_text, long_texts, limit, syntax_fault, done, unbuilt}
 use Rattle.rml_top.specs.Line.{Reads, takes_texts, text_names, arguments_of}
-use Rattle.rml_top.specs.Matching.{literals_in}
+use Rattle.rml_top.specs.FirstForm.{IsFirstForm}
 use Rattle.rml_top.specs.Sources.{AreTexts, IsReached, IsTooLong, PassTotal}
 use Rattle.rml_top.specs.Text.{IsText}
 use Rattle.rml_top.specs.declared.status.Status.{Status}
 use Rattle.rml_top.specs.declared.status.Status.TheVariants.{Done, Usage, Syntax, Limit, Unbuilt}
-use Rattle.rml_top.proofs.FileWalk.{End, Long, Over, Read, walk, texts-walk, long-walk, total-walk}
-use Rattle.rml_top.proofs.Form.{form-found}
+use Rattle.rml_top.proofs.Alone.{only-text}
+use Rattle.rml_top.proofs.FileWalk.{End, Missing, Long, Over, Read, walk, texts-walk, long-walk, total-walk, missing-walk}
 use Rattle.rml_top.proofs.Pieces.{same-tokens}
+use Rattle.rml_top.proofs.Printing.{same-literals}
 
 -- ---- what accepted texts give
 
 one-printed : (bytes a b : List ℕ) → IsText bytes a → IsText bytes b → a ≡ b
 one-printed bytes a b h k =
     let tokens : h.tokens ≡ k.tokens = same-tokens bytes h.tokens k.tokens h.has_tokens k.has_tokens in
-    let some : ◌≡◌ {A = Option (List (List ℕ))} (Some h.literals) (Some k.literals) = sym (form-found h.tokens h.literals h.form) ∙ ap literals_in tokens ∙ form-found k.tokens k.literals k.form in
-    let literals : h.literals ≡ k.literals = cc some in
+    let literals = same-literals k.tokens h.literals k.literals (subst (λ (ts : List (List ℕ)). IsFirstForm ts h.literals) tokens h.form) k.form in
     h.prints ∙ ap (λ (ls : List (List ℕ)). flat_map unescaped ls) literals ∙ sym k.prints
 
 one-listing : (bytes a b : List ℕ) → ShowsTokens bytes a → ShowsTokens bytes b → a ≡ b
@@ -49,9 +49,6 @@ one-tree-text : (bytes a b : List ℕ) → ShowsTree bytes a → ShowsTree bytes
 one-tree-text bytes a b h k =
     let same = one-text 0 bytes [] h.tree k.tree h.names k.names h.read k.read in
     h.printed ∙ ap (λ (t : Text). printed_text h.names t) same.0 ∙ ap (λ (ns : List (List ℕ)). printed_text ns k.tree) same.1 ∙ sym k.printed
-
-only-text : (texts : List (List ℕ)) (a b : List ℕ) → texts ≡ a ∷ [] → texts ≡ b ∷ [] → a ≡ b
-only-text texts a b e f = ap (λ (ts : List (List ℕ)). elim ts [ [] ↦ a | t ∷ ts ↦ t ]) (sym e ∙ f)
 
 one-output : (words : List (List ℕ)) (asks : Asks) (texts : List (List ℕ)) (a b : List ℕ) → Outputs words asks texts a → Outputs words asks texts b → a ≡ b
 one-output words (ShowTokens file) texts a b h k = one-listing k.0 a b (subst (λ (x : List ℕ). ShowsTokens x a) (only-text texts h.0 k.0 h.1 k.1) h.2) k.2
@@ -137,6 +134,7 @@ number-long : (files : Held) (names : List (List ℕ)) (a b : End) → walk file
 number-long files names a b e f = sym e ∙ f
 
 abbrev long-at : End → ℕ
+long-at (Missing k) = k
 long-at (Long k) = k
 long-at (Over k) = k
 long-at _ = 0
@@ -167,6 +165,21 @@ one-later files words asks s s' t t' (are_read ts x d) (is_over m q k e' f') =
 one-later files words asks s s' t t' (are_read ts x d) (are_read us y d') =
     let same : ts ≡ us = ap read-at (number-long files (text_names asks) (Read ts) (Read us) (texts-walk files (text_names asks) ts x) (texts-walk files (text_names asks) us y)) in
     one-text-end words asks us s s' t t' (subst (λ (z : List (List ℕ)). TextEnd words asks z s t) same d) d'
+
+-- ---- a file that is not held
+
+not-missing : (files : Held) (words : List (List ℕ)) (asks : Asks) (s : Status) (t : List ℕ) (k : ℕ) → Later (Some files) words asks s t → walk files 0 0 (text_names asks) ≡ Missing k → ⊥
+not-missing files words asks s t k (is_long n r l e f) at = absurd (let same = number-long files (text_names asks) (Long n) (Missing k) (long-walk files (text_names asks) n r l) at in cc)
+not-missing files words asks s t k (is_over n r l e f) at = absurd (let same = number-long files (text_names asks) (Over n) (Missing k) (total-walk files (text_names asks) n r l) at in cc)
+not-missing files words asks s t k (are_read ts x d) at = absurd (let same = number-long files (text_names asks) (Read ts) (Missing k) (texts-walk files (text_names asks) ts x) at in cc)
+
+pub due-or-missing : (files : Held) (words : List (List ℕ)) (line : Option Asks) (s : Status) (t : List ℕ) (k : ℕ) → IsDue (Some files) words line s t → IsMissing files line k → ⊥
+due-or-missing files words None s t k d m = m
+due-or-missing files words (Some asks) s t k d m = not-missing files words asks s t k (later (Some files) words asks s t m.0 d) (missing-walk files (text_names asks) k m.1 m.2)
+
+pub one-missing : (files : Held) (line : Option Asks) (j k : ℕ) → IsMissing files line j → IsMissing files line k → j ≡ k
+one-missing files None j k a b = absurd a
+one-missing files (Some asks) j k a b = ap long-at (number-long files (text_names asks) (Missing j) (Missing k) (missing-walk files (text_names asks) j a.1 a.2) (missing-walk files (text_names asks) k b.1 b.2))
 
 -- ---- the ends of a line by its words alone
 

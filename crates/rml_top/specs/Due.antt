@@ -1,5 +1,6 @@
 -- What is due for a line over what the files hold, by the order of refusals.
 use Rattle.std.specs.Prelude.{◌≡◌, ℕ, ◌<◌, ◌≤◌, true, false, List, [], ◌∷◌, length}
+use Rattle.std.specs.FinMap as fin_map
 use Rattle.std.specs.declared.option.Option.{Option}
 use Rattle.std.specs.declared.option.Option.TheVariants.{Some, None}
 use Rattle.rml_base.specs.declared.place.Place.{Place}
@@ -69,3 +70,9 @@ pub data IsDue : Option Held → List (List ℕ) → Option Asks → Status → 
       → Outputs words asks texts out → IsDue held words (Some asks) (Done None) out
   unbuilt : {held : Option Held} {words : List (List ℕ)} {asks : Asks} (texts : List (List ℕ)) → Reads asks → AreTexts held (text_names asks) texts
       → AreAccepted texts → ((out : List ℕ) → ¬ Outputs words asks texts out) → IsDue held words (Some asks) Unbuilt []
+
+-- It is told what the files hold. The texts of the line are read, and the file of this number is due, of which nothing is held: so
+-- nothing is due but a fault of reading it.
+abbrev pub IsMissing : Held → Option Asks → ℕ → Type 0
+IsMissing files None number = ⊥
+IsMissing files (Some asks) number = Reads asks × (r : IsReached (Some files) (text_names asks) number) × (fin_map.get files r.name ≡ None)

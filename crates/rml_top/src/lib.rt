@@ -3,6 +3,7 @@
 
 mod files;
 mod first_form;
+pub mod laws;
 mod line;
 mod note;
 mod perform;
