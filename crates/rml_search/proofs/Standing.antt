@@ -1,9 +1,10 @@
 -- What is bound after a match and after goals; and so each expression of a rule has a value where it comes to be evaluated.
-use Rattle.std.proofs.Common.{◌≡◌, ℕ, zero, suc, Bool, true, false, List, [], ◌∷◌, ◌++◌, map, length, Option, Some, None, refl, sym, ap, ◌∙◌, subst, append_assoc}
+use Rattle.std.proofs.Common.{◌≡◌, ℕ, zero, suc, Bool, true, false, List, [], ◌∷◌, ◌++◌, map, length, Option, Some, None, refl, sym, ap, ◌∙◌, subst, append_assoc, arith}
 use Rattle.std.specs.Prelude.{◌==◌, ◌&&◌, if◌then◌else◌, slice_get, IsSome, option_map, option_and_then}
 use Rattle.std.specs.List.{list_all, concat, Contains}
 use Rattle.std.specs.Str.{bytes_eq}
 use Rattle.std.specs.Ordering.{int_eq}
+use Rattle.std.proofs.lemmas.Bool.{ltb-true}
 use Rattle.std.proofs.lemmas.List.{append-nil, map-append}
 use Rattle.std.proofs.lemmas.List.Folds.{list_all-append}
 use Rattle.std.proofs.lemmas.Option.{cond_some, same_Some, option_and_then_some}
@@ -41,8 +42,8 @@ use Rattle.rml_search.specs.declared.state.After.{After}
 use Rattle.rml_search.specs.Matching.{Env, bind, Matcher, then_match, in_turn as match_in_turn, match_all, match_text, match_lit, match_con_at, match_tuple_at, match_list, match_chain, match_at, matching, matching_all}
 use Rattle.rml_search.specs.Values.{bound_in, value_of, values_of}
 use Rattle.rml_search.specs.Search.{step_weight, step, RelationCalls, Action, goes_on, in_turn, from_match, taken, trace_of_built_in, from_built_in, with_value, call, relation_of, relation_called, called, goal_at, going, going_all}
-use Rattle.rml_search.specs.Standing.{BindsAlso, HasBound, Stands, in_rule, in_not, in_brackets, HasValues}
-use Rattle.rml_search.proofs.Valued.{each_expression, all_expressions}
+use Rattle.rml_search.specs.Standing.{BindsAlso, HasBound, Stands, in_rule, in_not, in_brackets, CalleeHasValue, HasValues}
+use Rattle.rml_search.proofs.Valued.{each_val, found_in, each_expression, all_expressions}
 
 -- ---- after a match
 
@@ -407,7 +408,7 @@ module _ (p : Program) (calls : RelationCalls) where
   ready_where (in_not g env stands) = inside_not g env (ready_where stands)
   ready_where (in_brackets front back g env bindings n m s t stands answers) = inside_brackets front back g env bindings n m s t (ready_where stands) answers
 
-  -- ---- the values of its expressions
+  -- ---- the values of its callee and its expressions
 
   abbrev ReadyValues : RGoal → Type 0
   ReadyValues g = (env : Env) → Ready p env g → HasValues p env (out-RGoal g)
@@ -426,6 +427,12 @@ module _ (p : Program) (calls : RelationCalls) where
   each_used : (xs ys bound : List ℕ) → can_use (xs ++ ys) bound ≡ true → Both (can_use xs bound) (can_use ys bound)
   each_used xs ys bound h = both (can_use xs bound) (can_use ys bound) (sym (list_all-append (λ x. contains x bound) xs ys) ∙ h)
 
+  callee_valued : (vars : ℕ) (f : Callee) (env : Env) → callee_fits (counts_of p.names p.vals p.rels) vars f ≡ true → can_use (callee_uses f) (bound_in env) ≡ true → CalleeHasValue p env f
+  callee_valued vars (callee.Rel r) env fits used = tt
+  callee_valued vars (callee.Built k) env fits used = tt
+  callee_valued vars (callee.Var x) env fits used = found_in x env (passes (λ y. contains y (bound_in env)) (x ∷ []) x used (0, omega arith, refl))
+  callee_valued vars (callee.Val k) env fits used = each_val p k (ltb-true k (length p.vals) fits)
+
   values_layer : (y : RGoal-F ((x : RGoal) × ReadyValues x)) → ReadyValues (roll-RGoal (map-RGoal ((x : RGoal) × ReadyValues x) RGoal (λ e. e.0) y))
   values_layer (RGoal-F.Call f es ps) =
       values_rolled (RGoal-F.Call f es ps)
@@ -433,7 +440,9 @@ module _ (p : Program) (calls : RelationCalls) where
       let counts = counts_of p.names p.vals p.rels in
       let two = both (callee_fits counts vars f && exps_fit counts p.cons vars es) (patterns_fit counts p.cons vars ps) fits in
       let can = cond_some (can_use (callee_uses f ++ all_use es) (bound_in env)) (bound_in env ++ all_bind ps) bound used in
-      all_expressions p vars es env (both (callee_fits counts vars f) (exps_fit counts p.cons vars es) two.first).second (each_used (callee_uses f) (all_use es) (bound_in env) can.0).second)
+      let fit = both (callee_fits counts vars f) (exps_fit counts p.cons vars es) two.first in
+      let each = each_used (callee_uses f) (all_use es) (bound_in env) can.0 in
+      (callee_valued vars f env fit.first each.first, all_expressions p vars es env fit.second each.second))
   values_layer (RGoal-F.Equal a b) =
       values_rolled (RGoal-F.Equal a b)
       (λ env vars bound fits used.

@@ -220,7 +220,7 @@ found_if : (same found : Bool) (v : Value) (o : Option Value) → (same || found
 found_if true found v o h more = refl
 found_if false found v o h more = more h
 
-found_in : (x : ℕ) (env : Env) → contains x (bound_in env) ≡ true → IsSome (look x env)
+pub found_in : (x : ℕ) (env : Env) → contains x (bound_in env) ≡ true → IsSome (look x env)
 found_in x [] h = absurd (cc)
 found_in x (b ∷ env) h = found_if (x == b.var) (contains x (bound_in env)) b.value (look x env) h (found_in x env)
 

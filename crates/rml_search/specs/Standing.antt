@@ -7,6 +7,8 @@ use Rattle.rml_builtin.specs.Given.{Bindings}
 use Rattle.rml_resolved.specs.declared.program.Program.{Program}
 use Rattle.rml_resolved.specs.declared.tables.RelDef.{RelDef}
 use Rattle.rml_resolved.specs.declared.tables.RRule.{RRule}
+use Rattle.rml_resolved.specs.declared.trees.Callee.{Callee}
+use Rattle.rml_resolved.specs.declared.trees.Callee.TheVariants as callee
 use Rattle.rml_resolved.specs.declared.trees.RGoal.{RGoal}
 use Rattle.rml_resolved.specs.declared.trees.RGoal.TheOpen.{RGoal-F}
 use Rattle.rml_resolved.specs.declared.trees.RGoal.TheVariants.{Not, All}
@@ -14,7 +16,7 @@ use Rattle.rml_search.specs.declared.state.Matched.{Matched}
 use Rattle.rml_search.specs.declared.state.Matched.TheVariants as matched
 use Rattle.rml_search.specs.declared.state.After.{After}
 use Rattle.rml_search.specs.Matching.{Env, matching_all}
-use Rattle.rml_search.specs.Values.{bound_in, value_of, values_of}
+use Rattle.rml_search.specs.Values.{look, bound_in, val_of, value_of, values_of}
 use Rattle.rml_search.specs.Search.{RelationCalls, going_all}
 
 -- where a match is Yes, these are bound behind what was bound before
@@ -38,9 +40,16 @@ pub data Stands (p : Program) (calls : RelationCalls) : RGoal → Env → Type 0
   in_brackets : (front back : List RGoal) (g : RGoal) (env : Env) (bindings : Bindings) (n m : ℕ) (s : After) (t : Trace)
       → Stands p calls (All (front ++ g ∷ back)) env → going_all p calls front env bindings n ≡ Yes s t m → Stands p calls g s.env
 
--- the expressions of a goal have values, those of the goals in it aside
+-- a callee that is a variable or a val has a value; relations and built-ins are named by their numbers
+abbrev pub CalleeHasValue : Program → Env → Callee → Type 0
+CalleeHasValue p env (callee.Rel r) = Unit {0}
+CalleeHasValue p env (callee.Built k) = Unit {0}
+CalleeHasValue p env (callee.Var x) = IsSome (look x env)
+CalleeHasValue p env (callee.Val k) = IsSome (val_of p k)
+
+-- the callee and the expressions of a goal have values, those of the goals in it aside
 abbrev pub HasValues : Program → Env → RGoal-F RGoal → Type 0
-HasValues p env (RGoal-F.Call f es ps) = IsSome (values_of p es env)
+HasValues p env (RGoal-F.Call f es ps) = CalleeHasValue p env f × IsSome (values_of p es env)
 HasValues p env (RGoal-F.Equal a b) = IsSome (value_of p a env) × IsSome (value_of p b env)
 HasValues p env (RGoal-F.Let q e) = IsSome (value_of p e env)
 HasValues p env (RGoal-F.Not g) = Unit {0}

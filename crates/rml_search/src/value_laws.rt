@@ -53,8 +53,8 @@ pub fn goals_bind()
         → (bindings : Bindings) (n : ℕ) → HasBound bound (going_all p calls gs env bindings n) }
 {}
 
-/// In the search of a program each expression has a value where it comes to be evaluated: those of a goal where it stands, and
-/// the results of a rule behind its premises.
+/// In the search of a program each expression, and each variable and val that is called, has a value where it comes to be
+/// evaluated: those of a goal where it stands, and the results of a rule behind its premises.
 pub fn no_expression_is_without_a_value()
     ensures goals { (p : Program) (calls : RelationCalls) (g : RGoal) (env : Env) → Stands p calls g env → HasValues p env (out-RGoal g) }
     ensures results { (p : Program) (calls : RelationCalls) (r : RelDef) (rule : RRule) (vs : List Value) (env : Env) (bindings : Bindings) (n m : ℕ) (s : After) (t : Trace)
