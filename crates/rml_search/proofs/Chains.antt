@@ -13,7 +13,8 @@ use Rattle.rml_search.specs.declared.state.Matched.TheVariants.{Yes, No, Wrong}
 use Rattle.rml_search.specs.declared.state.Parts.{Parts}
 use Rattle.rml_search.specs.declared.state.Parts.TheVariants as parts
 use Rattle.rml_search.specs.declared.state.Parts.TheVariants.{HeadAndTail, Other}
-use Rattle.rml_search.specs.Matching.{Env, Matcher, then_match, match_all, match_con_at, match_con, match_list, match_chain, parts_at, head_at, tail_at, head_of, tail_of}
+use Rattle.rml_search.specs.Matching.{Env, Matcher, then_match, match_all, match_con_at, match_con, match_list, match_chain}
+use Rattle.rml_search.specs.Lists.{parts_at, head_at, tail_at, head_of, tail_of}
 use Rattle.rml_search.specs.Values.{chain_of}
 
 pub chain_of_append : (vs : List Value) (tail : Value) → chain_of (vs ++ tail ∷ []) ≡ Some (onto vs tail)

@@ -1,4 +1,5 @@
 pub mod Matching
+pub mod Lists
 pub mod Values
 pub mod Search
 pub mod Standing

@@ -13,9 +13,6 @@ use Rattle.rml_resolved.specs.declared.trees.RPat.TheOpen.{RPat-F}
 use Rattle.rml_search.specs.declared.state.Bound.{Bound}
 use Rattle.rml_search.specs.declared.state.Matched.{Matched}
 use Rattle.rml_search.specs.declared.state.Matched.TheVariants.{Yes, No, Wrong}
-use Rattle.rml_search.specs.declared.state.Parts.{Parts}
-use Rattle.rml_search.specs.declared.state.Parts.TheVariants as parts
-use Rattle.rml_search.specs.declared.state.Parts.TheVariants.{HeadAndTail, Other}
 
 -- what the variables of a rule stand for, in the order in which they were bound
 abbrev pub Env : Type 0
@@ -94,24 +91,3 @@ matching names = fold-RPat Matcher (match_at names)
 -- patterns against as many values, from left to right
 abbrev pub matching_all : List (List ℕ) → List RPat → List Value → Env → Matched
 matching_all names ps vs env = match_all (map (matching names) ps) vs env
-
--- ---- how a list is taken apart
-
-abbrev pub parts_at : Value-F Value → Parts
-parts_at (Value-F.Con d (x ∷ xs ∷ [])) = if CONS == d then HeadAndTail else Other
-parts_at (Value-F.Con d vs) = if CONS == d then parts.Wrong else Other
-parts_at _ = parts.Wrong
-
-abbrev pub head_at : Value → Value-F Value → Value
-head_at v (Value-F.Con d (x ∷ xs ∷ [])) = x
-head_at v _ = v
-
-abbrev pub tail_at : Value → Value-F Value → Value
-tail_at v (Value-F.Con d (x ∷ xs ∷ [])) = xs
-tail_at v _ = v
-
-abbrev pub head_of : Value → Value
-head_of v = head_at v (out-Value v)
-
-abbrev pub tail_of : Value → Value
-tail_of v = tail_at v (out-Value v)

@@ -3,7 +3,8 @@
 ghost use Rattle.std.specs.Prelude.{◌≡◌, [], IfOk, map};
 ghost use Rattle.rml_value.specs.declared.value.Value.{out-Value};
 ghost use Rattle.rml_value.specs.declared.value.TheConstants as constants;
-ghost use Rattle.rml_search.specs.Matching.{bind, when as when_holds, matching as matching_of, matching_all, match_all, match_lit, match_con, parts_at, head_of, tail_of, match_list as list_matched, match_chain as chain_matched};
+ghost use Rattle.rml_search.specs.Matching.{bind, when as when_holds, matching as matching_of, matching_all, match_all, match_lit, match_con, match_list as list_matched, match_chain as chain_matched};
+ghost use Rattle.rml_search.specs.Lists.{parts_at, head_of, tail_of};
 
 use crate::state::{Bound, Env, Matched, Parts};
 use rml_base::{Bytes, Memory};
