@@ -29,19 +29,20 @@ then_match (Yes env) go = go env
 then_match No go = No
 then_match Wrong go = Wrong
 
--- from left to right, up to the first that does not match; each pattern has a value
+-- from left to right, up to the first that does not match or is Wrong
 abbrev pub in_turn : List Matcher → List Value → Env → Matched
 in_turn [] [] env = Yes env
 in_turn (p ∷ ps) (v ∷ vs) env = then_match (p v env) (in_turn ps vs)
 in_turn _ _ env = Wrong
 
+-- patterns and values are as many, or it is Wrong before any is matched
 abbrev pub match_all : List Matcher → List Value → Env → Matched
 match_all ps vs env = if length ps == length vs then in_turn ps vs env else Wrong
 
 abbrev pub when : Bool → Env → Matched
 when b env = if b then Yes env else No
 
--- a text literal is the number of its bytes
+-- a text literal is a number, under which its bytes stand among the names
 abbrev pub match_text : Option (List ℕ) → List ℕ → Env → Matched
 match_text None t env = Wrong
 match_text (Some bytes) t env = when (bytes_eq bytes t) env
@@ -52,11 +53,11 @@ match_lit names (lit.Char c) (Value-F.Char d) env = when (c == d) env
 match_lit names (lit.Text k) (Value-F.Text t) env = match_text (slice_get names k) t env
 match_lit names _ _ env = Wrong
 
+-- another constructor does not match
 abbrev pub match_con_at : ℕ → List Matcher → Value-F Value → Env → Matched
 match_con_at c ps (Value-F.Con d vs) env = if c == d then match_all ps vs env else No
 match_con_at c ps _ env = Wrong
 
--- another constructor does not match
 abbrev pub match_con : ℕ → List Matcher → Matcher
 match_con c ps v env = match_con_at c ps (out-Value v) env
 

@@ -83,6 +83,7 @@ from_built_in p number ps env (given.Yes a t) n = after (trace_of_built_in numbe
 from_built_in p number ps env given.No n = No untraced n
 from_built_in p number ps env given.Wrong n = GoneWrong untraced
 
+-- goes on with a value, or with a relation; where there is none it is Wrong
 abbrev pub with_value : {A C : Type 0} → Option A → (A → ℕ → Went C) → ℕ → Went C
 with_value None go n = GoneWrong untraced
 with_value (Some v) go n = go v n
@@ -110,7 +111,7 @@ call p calls r s n = step p (with_value r (λ r. calls r s)) n
 abbrev pub relation_called : Program → RelationCalls → Option ℕ → List Value → List RPat → Action
 relation_called p calls r vs ps env bindings n = then_go (call p calls r (record { values = vs; bindings = bindings }) n) (taken p ps env)
 
--- a built-in takes no step
+-- a callee on values: a built-in, which takes no step, or else the relation that it names
 abbrev pub called : Program → RelationCalls → Callee → List Value → List RPat → Action
 called p calls (callee.Built k) vs ps env bindings n = from_built_in p k ps env (built_in_at k vs bindings) n
 called p calls f vs ps env bindings n = relation_called p calls (relation_of p f env) vs ps env bindings n
@@ -161,7 +162,7 @@ rules_in (Some r) = r.rules
 abbrev pub relation_body : Program → RelationCalls → RelationCalls
 relation_body p calls r s n = try p calls (rules_in (slice_get p.rels r)) s n
 
--- what relations do where calls go so deep
+-- what relations do where calls go so deep, and are cut beyond
 abbrev pub relations_to : Program → ℕ → RelationCalls
 relations_to p depth = calls_to (relation_body p) depth
 

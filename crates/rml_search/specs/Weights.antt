@@ -3,7 +3,7 @@ use Rattle.std.specs.Prelude.{◌≡◌, ℕ, ◌+◌, ◌*◌, ◌≤◌}
 use Rattle.rml_base.specs.Run.{Cut, Run}
 use Rattle.rml_base.specs.Went.{Went, Yes, No, CutOff, GoneWrong, trace_of}
 
--- of n steps so many were taken: all that are not left, and all where it is cut
+-- of n steps so many were taken: all that are not left, all where it is cut, and at most n where it is Wrong
 abbrev pub Took : {A : Type 0} → ℕ → ℕ → Went A → Type 0
 Took n steps (Yes a t left) = steps + left ≡ n
 Took n steps (No t left) = steps + left ≡ n
