@@ -90,7 +90,7 @@ goals_fit n cons vars gs = every (map (goal_fits n cons vars) gs)
 abbrev pub rule_fits : Counts → List ConDef → RRule → Bool
 rule_fits n cons r = patterns_fit n cons r.vars r.inputs && goals_fit n cons r.vars r.goals && exps_fit n cons r.vars r.results
 
--- a relation has names, a type that fits where it is declared, and at least one rule
+-- a relation has names, a relation type that fits where its type is declared, and at least one rule
 abbrev pub relation_fits : Counts → List TypeDef → List ConDef → RelDef → Bool
 relation_fits n types cons r =
     nat_lt r.«module» n.names && nat_lt r.name n.names && scheme_fits types r.scheme && nat_lt 0 (length r.rules) && list_all (rule_fits n cons) r.rules

@@ -24,9 +24,14 @@ type_at types (SchemeTree-F.Rel ins outs) = every ins && every outs
 abbrev pub type_fits : List TypeDef → SchemeTree → Bool
 type_fits types = fold-SchemeTree Bool (type_at types)
 
+abbrev pub is_relation_type : SchemeTree-F SchemeTree → Bool
+is_relation_type (SchemeTree-F.Rel ins outs) = true
+is_relation_type _ = false
+
+-- the declared type of a relation, where there is one: a relation type that fits
 abbrev pub scheme_fits : List TypeDef → Option Scheme → Bool
 scheme_fits types None = true
-scheme_fits types (Some s) = type_fits types s.body
+scheme_fits types (Some s) = is_relation_type (out-SchemeTree s.body) && type_fits types s.body
 
 -- ---- types
 

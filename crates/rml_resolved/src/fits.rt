@@ -158,7 +158,8 @@ fn are_rules(counts: Counts, cons: &[ConDef], rules: &[RRule]) -> bool
     rules.iter().all(|rule| is_rule(counts, cons, rule))
 }
 
-/// Whether a relation has names, rules that fit, one at least, and a type that fits where it is declared.
+/// Whether a relation has names, rules that fit, one at least, and a relation type that fits where its type is
+/// declared.
 pub fn is_relation(counts: Counts, types: &[TypeDef], cons: &[ConDef], rel: &RelDef) -> bool
     ensures { result ≡ relation_fits counts types.now cons.now rel.now }
 {

@@ -31,7 +31,8 @@ pub struct Program {
     ghost cons_first: { IsTrue (cons_begin names cons) },
     ghost relations_first: { IsTrue (relations_begin names rels) },
     // numbers lead into their tables, arguments are as many as declared, integers are in range, chains have two items,
-    // a constructor belongs to a datatype and has fewer than 2 ^ 20 arguments, a val has no variable, a relation has a rule
+    // a constructor belongs to a datatype and has fewer than 2 ^ 20 arguments, a val has no variable, a relation has a rule and,
+    // where its type is declared, a relation type
     ghost types_fit: { IsTrue (list_all (type_def_fits (length names) types) types) },
     ghost cons_fit: { IsTrue (list_all (con_def_fits (length names) types) cons) },
     ghost vals_fit: { IsTrue (list_all (val_fits (counts_of names vals rels) types cons) vals) },

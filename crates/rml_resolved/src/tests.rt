@@ -31,6 +31,7 @@ enum Change {
     ValWithVariable,
     ValWithoutName,
     RelationWithoutRule,
+    RelationDeclaredAsInteger,
     IntegerOutOfRange,
     TextOfNoName,
     ChainOfOneItem,
@@ -46,6 +47,8 @@ enum Change {
     UsedAfterNot,
     RuleWithoutToken,
     RuleOfTooFewTokens,
+    RuleOfEightParts,
+    RuleOfNineParts,
     LongestRuleIsShort,
     HeaviestProgram,
     HeavierProgram,
@@ -272,21 +275,37 @@ fn vals(alloc: Global, change: Change) -> Result<Items<ValDef>, Fail> {
     Ok(two(alloc, first, second)?)
 }
 
-/// A relation of the prelude, with one rule that has so many tokens and no parts.
-fn prelude_relation(alloc: Global, name: u32, tokens: u32) -> Result<RelDef, Memory> {
+fn wildcards(alloc: Global, count: u32) -> Result<Items<RPat>, Memory> {
+    let mut all = Items::new(alloc);
+    for _ in 0..count {
+        all.push(RPat::Any)?;
+    }
+    Ok(all)
+}
+
+/// The declared type of a relation of the prelude.
+fn declared(alloc: Global, change: Change, name: u32) -> Result<Option<Scheme>, Fail> {
+    match (change, name) {
+        (Change::RelationDeclaredAsInteger, 24) => Ok(Some(scheme(alloc, 0, named(alloc, INT))?)),
+        _ => Ok(None),
+    }
+}
+
+/// A relation of the prelude, with one rule that has so many tokens.
+fn prelude_relation(alloc: Global, change: Change, name: u32, tokens: u32) -> Result<RelDef, Fail> {
     let rule = RRule {
         place: NOWHERE,
-        inputs: Items::new(alloc),
+        inputs: wildcards(alloc, parts_after(change, tokens))?,
         goals: Items::new(alloc),
         results: Items::new(alloc),
         vars: 0,
-        tokens,
+        tokens: tokens_after(change, tokens),
     };
     Ok(RelDef {
         module: 0,
         name,
         place: NOWHERE,
-        scheme: None,
+        scheme: declared(alloc, change, name)?,
         rules: one(alloc, rule)?,
     })
 }
@@ -296,7 +315,18 @@ fn tokens_after(change: Change, tokens: u32) -> u32 {
     match (change, tokens) {
         (Change::LongestRuleIsShort, 40) => 39,
         (Change::RuleWithoutToken, 7) => 0,
+        (Change::RuleOfEightParts, 7) => 1,
+        (Change::RuleOfNineParts, 7) => 8,
         _ => tokens,
+    }
+}
+
+/// The parts of the rule of 7 tokens; the other rules of the prelude have none.
+fn parts_after(change: Change, tokens: u32) -> u32 {
+    match (change, tokens) {
+        (Change::RuleOfEightParts, 7) => 8,
+        (Change::RuleOfNineParts, 7) => 9,
+        _ => 0,
     }
 }
 
@@ -434,7 +464,7 @@ fn relations(alloc: Global, change: Change) -> Result<Items<RelDef>, Fail> {
         (23, 40),
         (24, 22),
     ] {
-        all.push(prelude_relation(alloc, name, tokens_after(change, tokens))?)?;
+        all.push(prelude_relation(alloc, change, name, tokens)?)?;
     }
     all.push(main_relation(alloc, change)?)?;
     Ok(all)
@@ -461,6 +491,7 @@ fn changes_that_break_no_fact(rt: HostRuntime) -> Result<(), Fail> {
     for change in [
         Change::Nothing,
         Change::ConOfMostArguments,
+        Change::RuleOfEightParts,
         Change::HeaviestProgram,
     ] {
         assert!(rt; is_accepted(rt.alloc(), change)?, "{change:?}");
@@ -485,6 +516,7 @@ fn changes_with_the_fact_that_each_breaks(rt: HostRuntime) -> Result<(), Fail> {
         (Change::ValWithVariable, "vals_fit"),
         (Change::ValWithoutName, "vals_fit"),
         (Change::RelationWithoutRule, "relations_fit"),
+        (Change::RelationDeclaredAsInteger, "relations_fit"),
         (Change::IntegerOutOfRange, "relations_fit"),
         (Change::TextOfNoName, "relations_fit"),
         (Change::ChainOfOneItem, "relations_fit"),
@@ -500,6 +532,7 @@ fn changes_with_the_fact_that_each_breaks(rt: HostRuntime) -> Result<(), Fail> {
         (Change::UsedAfterNot, "used_after"),
         (Change::RuleWithoutToken, "rules_small"),
         (Change::RuleOfTooFewTokens, "rules_small"),
+        (Change::RuleOfNineParts, "rules_small"),
         (Change::LongestRuleIsShort, "long_rule"),
         (Change::HeavierProgram, "light"),
         (Change::MainOverVariable, "main_fits"),

@@ -3,7 +3,7 @@
 ghost use Rattle.std.specs.Prelude.{◌≡◌, map, slice_get};
 ghost use Rattle.rml_types.specs.Schemes.{every};
 ghost use Rattle.rml_types.specs.declared.tree.SchemeTree.{out-SchemeTree};
-ghost use Rattle.rml_resolved.specs.Typing.{takes, type_fits, scheme_fits, means_fits, type_def_fits, is_datatype as is_datatype_in, is_var, are_vars, is_whole, gives_whole, makes_whole, con_def_fits, is_constant, is_list_of_texts, takes_texts, gives_integer, is_main_type, is_main_scheme, is_main};
+ghost use Rattle.rml_resolved.specs.Typing.{takes, type_fits, is_relation_type, scheme_fits, means_fits, type_def_fits, is_datatype as is_datatype_in, is_var, are_vars, is_whole, gives_whole, makes_whole, con_def_fits, is_constant, is_list_of_texts, takes_texts, gives_integer, is_main_type, is_main_scheme, is_main};
 
 use crate::tables::{ConDef, RelDef, TypeDef};
 use rml_builtin::types::{INT, LIST, STRING};
@@ -48,12 +48,21 @@ fn are_types_whole(types: &[TypeDef], trees: &[SchemeTree]) -> bool
     true
 }
 
-/// Whether a type that is there is whole.
+fn is_relational(tree: &SchemeTree) -> bool
+    ensures { result ≡ is_relation_type (out-SchemeTree tree.now) }
+{
+    match tree {
+        SchemeTree::Rel(_, _) => true,
+        _ => false,
+    }
+}
+
+/// Whether a declared type of a relation, where there is one, is a whole relation type.
 pub fn is_scheme_whole(types: &[TypeDef], scheme: &Option<Scheme>) -> bool
     ensures { result ≡ scheme_fits types.now scheme.now }
 {
     match scheme {
-        Some(scheme) => is_type_whole(types, &scheme.body),
+        Some(scheme) => is_relational(&scheme.body) && is_type_whole(types, &scheme.body),
         None => true,
     }
 }
