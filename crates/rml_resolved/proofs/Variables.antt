@@ -1,5 +1,6 @@
--- Each variable of a rule of a program is bound: as many are bound as the rule has, none twice, and each is one of the rule's.
-use Rattle.std.proofs.Common.{◌≡◌, ℕ, ◌<◌, ◌≤◌, Bool, true, false, List, [], ◌∷◌, ◌++◌, map, length, eqb, refl, sym, ◌∙◌, subst, inl, inr, arith, IsTrue}
+-- Each variable of a rule of a program is bound, at one place alone: as many are bound as the rule has, none twice, and each is
+-- one of the rule's.
+use Rattle.std.proofs.Common.{◌≡◌, ℕ, ◌<◌, ◌≤◌, Bool, true, false, List, [], ◌∷◌, ◌++◌, map, length, eqb, refl, sym, ap, ◌∙◌, subst, inl, inr, arith}
 use Rattle.std.specs.Prelude.{◌&&◌, not, nat_lt}
 use Rattle.std.specs.List.{list_all, concat, Contains, IsDistinct}
 use Rattle.std.proofs.lemmas.Bool.{eqb-true}
@@ -20,7 +21,9 @@ use Rattle.rml_resolved.specs.declared.trees.RPat.TheOpen.{RPat-F}
 use Rattle.rml_resolved.specs.declared.trees.RGoal.{RGoal, map-RGoal, roll-RGoal, fold-roll-RGoal, ind-RGoal}
 use Rattle.rml_resolved.specs.declared.trees.RGoal.TheOpen.{RGoal-F}
 use Rattle.rml_resolved.specs.Binding.{contains, binds_at, binds, all_bind, goal_binds_at, goal_binds, rule_binds, is_distinct, binds_once, relation_binds_once}
+use Rattle.rml_resolved.specs.Bound.{count}
 use Rattle.rml_resolved.specs.Fits.{pattern_at, pattern_fits, goal_at, goal_fits, goals_fit, patterns_fit, exps_fit, callee_fits, exp_fits, rule_fits, relation_fits, counts_of}
+use Rattle.rml_resolved.proofs.Counts.{contains-count}
 use Rattle.rml_resolved.proofs.Facts.{both}
 use Rattle.rml_resolved.proofs.Rounds.{both_ways, is_it, apart}
 
@@ -144,15 +147,32 @@ all_there xs vars x below apart_all count less =
           omega arith)
     ]
 
-rule_binds_each : (n : Counts) (cons : List ConDef) (r : RRule) (x : ℕ) → rule_fits n cons r ≡ true → binds_once r ≡ true → x < r.vars → contains x (rule_binds r) ≡ true
+none_counted : (x : ℕ) (xs : List ℕ) → contains x xs ≡ false → count x xs ≡ 0
+none_counted x xs h = (let none : nat_lt 0 (count x xs) ≡ false = sym (contains-count x xs) ∙ h in grind (arith, nat_tests))
+
+-- a number of a list in which none stands twice stands there once
+counted_once : (x : ℕ) (xs : List ℕ) → is_distinct xs ≡ true → contains x xs ≡ true → count x xs ≡ 1
+counted_once x [] apart_all h = absurd (cc)
+counted_once x (y ∷ ys) apart_all h =
+    let two = both (not (contains y ys)) (is_distinct ys) apart_all in
+    elim (is_it (eqb x y)) [
+      | inl e ↦ (
+          let same : x ≡ y = eqb-true x y e in
+          let none : count x ys ≡ 0 = none_counted x ys (ap (λ k. contains k ys) same ∙ not_true (contains y ys) two.first) in
+          rw (e, none) refl)
+      | inr e ↦ rw e (counted_once x ys two.second (elim (both_ways (eqb x y) (contains x ys) h) [ inl i ↦ absurd (cc) | inr i ↦ i ]))
+    ]
+
+rule_binds_each : (n : Counts) (cons : List ConDef) (r : RRule) (x : ℕ) → rule_fits n cons r ≡ true → binds_once r ≡ true → x < r.vars → count x (rule_binds r) ≡ 1
 rule_binds_each n cons r x fits once less =
     let two = both (is_distinct (rule_binds r)) (eqb (length (rule_binds r)) r.vars) once in
-    all_there (rule_binds r) r.vars x (rule_below n cons r fits) two.first (eqb-true (length (rule_binds r)) r.vars two.second) less
+    counted_once x (rule_binds r) two.first
+    (all_there (rule_binds r) r.vars x (rule_below n cons r fits) two.first (eqb-true (length (rule_binds r)) r.vars two.second) less)
 
 pub passes : {X : Type 0} (test : X → Bool) (xs : List X) (x : X) → list_all test xs ≡ true → Contains xs x → test x ≡ true
 passes test xs x h there = All-contains (λ y. test y ≡ true) xs x (AllPass-from_list_all test xs h) there
 
-pub bound : (p : Program) (r : RelDef) (rule : RRule) (x : ℕ) → Contains p.rels r → Contains r.rules rule → x < rule.vars → IsTrue (contains x (rule_binds rule))
+pub bound : (p : Program) (r : RelDef) (rule : RRule) (x : ℕ) → Contains p.rels r → Contains r.rules rule → x < rule.vars → count x (rule_binds rule) ≡ 1
 bound p r rule x in_program in_relation less =
     let n = counts_of p.names p.vals p.rels in
     let fits = passes (relation_fits n p.types p.cons) p.rels r p.relations_fit in_program in

@@ -1,8 +1,9 @@
 //! What holds of programs and of the tests that they pass. These functions do nothing: their contracts are the laws.
 
-ghost use Rattle.std.specs.Prelude.{ℕ, ◌<◌, ◌↔◌, IsTrue, map};
+ghost use Rattle.std.specs.Prelude.{◌≡◌, ℕ, ◌<◌, ◌↔◌, IsTrue, map};
 ghost use Rattle.std.specs.List.{Contains};
-ghost use Rattle.rml_resolved.specs.Binding.{contains, rule_binds};
+ghost use Rattle.rml_resolved.specs.Binding.{rule_binds};
+ghost use Rattle.rml_resolved.specs.Bound.{count};
 ghost use Rattle.rml_resolved.specs.Circles.{Graph, has_no_circle, IsClosed, IsAcyclic, type_needs, val_needs};
 ghost use Rattle.rml_resolved.specs.declared.program.Program.{Program};
 ghost use Rattle.rml_resolved.specs.declared.tables.RelDef.{RelDef};
@@ -19,7 +20,7 @@ pub fn programs_have_no_circle()
     ensures vals { (p : Program) → IsAcyclic (map val_needs p.vals) }
 {}
 
-/// Each variable of each rule of a program is bound by a pattern.
+/// Each variable of each rule of a program is bound at one place alone.
 pub fn each_variable_is_bound()
-    ensures { (p : Program) (r : RelDef) (rule : RRule) (x : ℕ) → Contains p.rels r → Contains r.rules rule → x < rule.vars → IsTrue (contains x (rule_binds rule)) }
+    ensures { (p : Program) (r : RelDef) (rule : RRule) (x : ℕ) → Contains p.rels r → Contains r.rules rule → x < rule.vars → count x (rule_binds rule) ≡ 1 }
 {}
