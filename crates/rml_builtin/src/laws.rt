@@ -19,6 +19,8 @@ pub fn read_back()
     ensures integers { (n : ℤ) → IsTrue (is_integer n) → read (written n) ≡ Some n }
     ensures lists { (vs : List Value) (bindings : Bindings) → built_in rows.ListVector (list_of vs ∷ []) bindings ≡ gives_one (value.Vector vs) bindings }
     ensures vectors { (vs : List Value) (bindings : Bindings) → built_in rows.VectorList (value.Vector vs ∷ []) bindings ≡ gives_one (list_of vs) bindings }
+    // what a vector was made of is the list that it gives back
+    ensures back { (v : Value) (vs : List Value) (bindings : Bindings) → built_in rows.ListVector (v ∷ []) bindings ≡ gives_one (value.Vector vs) bindings → built_in rows.VectorList (value.Vector vs ∷ []) bindings ≡ gives_one v bindings }
 {
     lists();
 }
