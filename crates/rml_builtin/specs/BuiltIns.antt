@@ -1,5 +1,5 @@
 -- The built-ins: what each row gives of its arguments and the bindings, a line a row. Arguments of other kinds than a row takes
--- are Wrong; an integer result out of range is no answer.
+-- are Wrong; in the rows with `ranged`, an integer result out of range is no answer.
 use Rattle.std.specs.Prelude.{ℕ, not, List, ◌++◌, length, map, Option, Some, slice_get, pos, ◌+ℤ◌, ◌-ℤ◌, ◌*ℤ◌, neg_ℤ, int_le, int_lt}
 use Rattle.std.specs.Int.{int_max, int_min}
 use Rattle.std.specs.Ordering.{int_eq}

@@ -1,4 +1,4 @@
--- A number that is not further from 0 than any integer, on the way to reading one.
+-- A number of at most 2 ^ 30, as far from 0 as an integer can be, on the way to reading one.
 use Rattle.std.specs.Prelude.{ℕ, ◌^◌, if◌then◌else◌, nat_le, Option, Some, None}
 
 abbrev pub capped : Option ℕ → Option ℕ

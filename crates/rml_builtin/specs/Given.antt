@@ -29,7 +29,7 @@ bool_value b = value.Con (if b then TRUE else FALSE) []
 abbrev pub truth : Bool → Bindings → Given
 truth b bindings = gives_one (bool_value b) bindings
 
--- goes on with arguments of the right kinds
+-- goes on with arguments of the right kinds, or with an entry or a row that is there; where there is none it is Wrong
 abbrev pub given : {A : Type 0} → Option A → (A → Given) → Given
 given None go = Wrong
 given (Some x) go = go x

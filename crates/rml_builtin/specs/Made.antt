@@ -11,7 +11,7 @@ abbrev pub list_cells : Option (List Value) → ℕ
 list_cells None = 0
 list_cells (Some vs) = 3 * length vs
 
--- a head and one cell for each eight bytes, rounded up; a head and one for each item of a vector
+-- a text is a head and one cell for each eight bytes, rounded up; a list three cells an item; a vector a head and a cell an item
 abbrev pub cells_at : Value-F Value → Value → ℕ
 cells_at (Value-F.Text t) v = 1 + (length t + 7) / 8
 cells_at (Value-F.Vector vs) v = 1 + length vs

@@ -9,7 +9,7 @@ use Rattle.rml_resolved.specs.Circles.{has_no_circle, type_needs, val_needs}
 use Rattle.rml_resolved.specs.Fits.{counts_of, relation_fits, val_fits}
 use Rattle.rml_resolved.specs.Size.{relation_is_small, has_long_rule, is_light}
 use Rattle.rml_resolved.specs.Typing.{type_def_fits, con_def_fits, is_main}
-use Rattle.rml_resolved.specs.Whole.{parts_begin, parts_fit, parts_end, variables_hold, sizes_hold, rules_hold, is_program}
+use Rattle.rml_resolved.specs.Whole.{parts_begin, parts_fit, no_circles, variables_hold, sizes_hold, rules_and_main_hold, is_program}
 
 -- both tests of two hold
 pub record Both (a b : Bool) : Type 0 where
@@ -39,8 +39,8 @@ pub record Facts (p : Parts) : Type 0 where
 
 pub facts : (p : Parts) → IsTrue (is_program p) → Facts p
 facts p h =
-    let all = both (parts_begin p && parts_fit p && parts_end p) (rules_hold p) h in
-    let three = both (parts_begin p && parts_fit p) (parts_end p) all.first in
+    let all = both (parts_begin p && parts_fit p && no_circles p) (rules_and_main_hold p) h in
+    let three = both (parts_begin p && parts_fit p) (no_circles p) all.first in
     let two = both (parts_begin p) (parts_fit p) three.first in
     let begins = both (types_begin p.names p.types && cons_begin p.names p.cons) (relations_begin p.names p.rels) two.first in
     let begin = both (types_begin p.names p.types) (cons_begin p.names p.cons) begins.first in

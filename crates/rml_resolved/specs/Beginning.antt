@@ -95,7 +95,7 @@ known_cons =
 
 -- no further constructor gives a built-in type or one of the prelude
 abbrev pub is_further : ConDef → Bool
-is_further d = nat_le 8 d.of
+is_further d = nat_le (length known_types) d.of
 
 unfoldable pub cons_begin : List (List ℕ) → List ConDef → Bool
 cons_begin names cons = begins (is_known_con names) known_cons cons && list_all is_further (drop (length known_cons) cons)

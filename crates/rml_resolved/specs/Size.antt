@@ -48,7 +48,7 @@ goal_size = fold-RGoal ℕ goal_at
 abbrev pub rule_size : RRule → ℕ
 rule_size r = sum_by pattern_size r.inputs + sum_by goal_size r.goals + sum_by exp_size r.results
 
--- a rule has a token, and no more parts than tokens, or at most eight
+-- a rule has at least one token, and no more parts than tokens or at most eight
 abbrev pub rule_is_small : RRule → Bool
 rule_is_small r = nat_lt 0 r.tokens && (nat_le (rule_size r) r.tokens || nat_le (rule_size r) 8)
 

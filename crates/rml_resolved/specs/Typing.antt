@@ -57,7 +57,7 @@ abbrev pub is_var : ℕ → SchemeTree-F SchemeTree → Bool
 is_var k (SchemeTree-F.Var j) = k == j
 is_var k _ = false
 
--- the variables in order, from one on
+-- the variables in order, from k on
 abbrev pub are_vars : ℕ → List SchemeTree → Bool
 are_vars k [] = true
 are_vars k (t ∷ ts) = is_var k (out-SchemeTree t) && are_vars (k + 1) ts

@@ -18,8 +18,8 @@ parts_fit p =
     && list_all (val_fits (counts_of p.names p.vals p.rels) p.types p.cons) p.vals
     && list_all (relation_fits (counts_of p.names p.vals p.rels) p.types p.cons) p.rels
 
-abbrev pub parts_end : Parts → Bool
-parts_end p = has_no_circle (map type_needs p.types) && has_no_circle (map val_needs p.vals)
+abbrev pub no_circles : Parts → Bool
+no_circles p = has_no_circle (map type_needs p.types) && has_no_circle (map val_needs p.vals)
 
 abbrev pub variables_hold : Parts → Bool
 variables_hold p = list_all relation_binds_once p.rels && list_all relation_uses_bound p.rels
@@ -27,8 +27,8 @@ variables_hold p = list_all relation_binds_once p.rels && list_all relation_uses
 abbrev pub sizes_hold : Parts → Bool
 sizes_hold p = list_all relation_is_small p.rels && has_long_rule p.rels && is_light p.vals p.rels
 
-abbrev pub rules_hold : Parts → Bool
-rules_hold p = variables_hold p && sizes_hold p && is_main p.gives (slice_get p.rels p.main)
+abbrev pub rules_and_main_hold : Parts → Bool
+rules_and_main_hold p = variables_hold p && sizes_hold p && is_main p.gives (slice_get p.rels p.main)
 
 abbrev pub is_program : Parts → Bool
-is_program p = parts_begin p && parts_fit p && parts_end p && rules_hold p
+is_program p = parts_begin p && parts_fit p && no_circles p && rules_and_main_hold p

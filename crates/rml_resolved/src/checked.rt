@@ -61,7 +61,7 @@ fn are_all_small(rels: &[RelDef]) -> bool
 }
 
 impl Parts {
-    ghost use Rattle.rml_resolved.specs.Whole.{parts_begin, parts_fit, parts_end, variables_hold, sizes_hold, rules_hold, is_program};
+    ghost use Rattle.rml_resolved.specs.Whole.{parts_begin, parts_fit, no_circles, variables_hold, sizes_hold, rules_and_main_hold, is_program};
 
     fn do_begin(&self) -> bool
         ensures { result ≡ parts_begin self.now }
@@ -87,8 +87,8 @@ impl Parts {
             && are_relations(counts, types, cons, self.rels.as_slice())
     }
 
-    fn do_end(&self, alloc: Global) -> Result<bool, Memory>
-        ensures { IfOk result (λ b. b ≡ parts_end self.now) }
+    fn has_no_circles(&self, alloc: Global) -> Result<bool, Memory>
+        ensures { IfOk result (λ b. b ≡ no_circles self.now) }
     {
         if do_types_end(alloc, self.types.as_slice())? {
             do_vals_end(alloc, self.vals.as_slice())
@@ -114,8 +114,8 @@ impl Parts {
         are_all_small(rels) && is_one_long(rels) && are_light(self.vals.as_slice(), rels)
     }
 
-    fn do_rules_hold(&self, alloc: Global) -> Result<bool, Memory>
-        ensures { IfOk result (λ b. b ≡ rules_hold self.now) }
+    fn do_rules_and_main_hold(&self, alloc: Global) -> Result<bool, Memory>
+        ensures { IfOk result (λ b. b ≡ rules_and_main_hold self.now) }
     {
         if self.do_variables_hold(alloc)? {
             Ok(self.do_sizes_hold() && can_be_main(self.gives, self.rels.as_slice(), self.main))
@@ -127,8 +127,8 @@ impl Parts {
     fn is_whole(&self, alloc: Global) -> Result<bool, Memory>
         ensures { IfOk result (λ b. b ≡ is_program self.now) }
     {
-        if self.do_begin() && self.do_fit() && self.do_end(alloc)? {
-            self.do_rules_hold(alloc)
+        if self.do_begin() && self.do_fit() && self.has_no_circles(alloc)? {
+            self.do_rules_and_main_hold(alloc)
         } else {
             Ok(false)
         }

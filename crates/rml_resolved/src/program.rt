@@ -43,8 +43,8 @@ pub struct Program {
     // each variable of a rule is bound, at one place alone, and used only after it
     ghost bound_once: { IsTrue (list_all relation_binds_once rels) },
     ghost used_after: { IsTrue (list_all relation_uses_bound rels) },
-    // a rule has no more parts than tokens, or eight; the longest has 40 tokens, as the prelude's has, or more; all rules and
-    // vals together are below 2 ^ 27
+    // a rule has at least one token, and no more parts than tokens or at most eight; the longest has 40 tokens, as the
+    // prelude's has, or more; all rules and vals together are below 2 ^ 27
     ghost rules_small: { IsTrue (list_all relation_is_small rels) },
     ghost long_rule: { IsTrue (has_long_rule rels) },
     ghost light: { IsTrue (is_light vals rels) },

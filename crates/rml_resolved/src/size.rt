@@ -109,7 +109,7 @@ fn is_small(rule: &RRule) -> bool
     0 < rule.tokens && (count <= u64::from(rule.tokens) || count <= 8)
 }
 
-/// Whether each rule has a token, and no more parts than tokens, or eight at most.
+/// Whether each rule has at least one token, and no more parts than tokens or at most eight.
 pub fn are_rules_small(rel: &RelDef) -> bool
     ensures { result ≡ relation_is_small rel.now }
 {

@@ -1,5 +1,5 @@
 //! The trees of rules. Variables are numbers of their rule; all other numbers are places in a program's tables. A text
-//! literal is the number of its bytes among the program's names.
+//! literal is a number, under which its bytes stand among the program's names.
 
 use rml_syntax::Lit;
 use sqlite_items::{Boxed, Items};
