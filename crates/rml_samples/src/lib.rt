@@ -2,6 +2,8 @@
 #![tactic(auto)]
 
 #[cfg(test)]
+mod programs;
+#[cfg(test)]
 mod sample;
 #[cfg(test)]
 mod searches;

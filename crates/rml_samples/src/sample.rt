@@ -1,4 +1,4 @@
-//! A small program that is built by hand: the tables that every program begins with, a datatype of trees, a val, and
+//! A small program that is built by hand: the tables that every program begins with, a datatype of trees, two vals, and
 //! relations of the caller's.
 
 use rml_base::{Bytes, Memory, Place};
@@ -197,16 +197,21 @@ fn cons(alloc: Global) -> Result<Items<ConDef>, Fail> {
     Ok(cons)
 }
 
-/// A val, which is 3.
-fn vals(alloc: Global) -> Result<Items<ValDef>, Fail> {
-    let mut vals = Items::new(alloc);
-    vals.push(ValDef {
+fn val(name: u32, scheme: Scheme, value: RExp) -> ValDef {
+    ValDef {
         module: 25,
-        name: 39,
+        name,
         place: place(),
-        scheme: constant(alloc, INT)?,
-        value: RExp::Lit(Lit::Int(3)),
-    })?;
+        scheme,
+        value,
+    }
+}
+
+/// A val that is 3, and a val that is the relation `main`.
+fn vals(alloc: Global, gives: bool) -> Result<Items<ValDef>, Fail> {
+    let mut vals = Items::new(alloc);
+    vals.push(val(39, constant(alloc, INT)?, RExp::Lit(Lit::Int(3))))?;
+    vals.push(val(40, type_of_main(alloc, gives)?, RExp::Rel(MAIN)))?;
     Ok(vals)
 }
 
@@ -265,7 +270,7 @@ pub fn parts(alloc: Global, gives: bool, own: Vec<Vec<RRule>>) -> Result<Parts, 
         names: names(alloc)?,
         types: types(alloc)?,
         cons: cons(alloc)?,
-        vals: vals(alloc)?,
+        vals: vals(alloc, gives)?,
         rels: relations(alloc, gives, own)?,
         main: MAIN,
         gives,

@@ -1,268 +1,19 @@
 //! How searches of small programs end: with which outcome, after how many steps, and what they print. The numbers are
 //! counted by hand: a step for each call begun, each rule begun, each answer given and each `not` that succeeds.
 
-use crate::sample::{A, ADD, B, DIV, HI, INT_TREE, LINE_END, MAIN, MUL, SUB, X, parts};
-use crate::spelled::Part::{
-    self, All, Any, Call, Case, Chain, EmptyList, Equal, Get, Head, Int, Let, ListOf, Not, PairOf,
-    Relation, Rule, Set, Text, Tree, Val,
+use crate::programs::{
+    A_VAL, ARGUMENTS, BY_A_VAL, BY_A_VARIABLE, ECHO, EVALUATOR, FAILURE, FEWER_PATTERNS,
+    FIRST_ANSWER, HELLO, INTEGER_CALLED, INTEGER_CALLED_BY_A_VAL, LISTS, MORE_PATTERNS, NO_MEANING,
+    NO_RULE_LEFT, NOT, NOT_NOT, OUTSIDE, PATTERN_WITHOUT_RESULT, PRINTING_PREMISE, RANGE,
+    RESULT_WITHOUT_PATTERN, UNDONE_SETTINGS, VECTOR, VECTOR_EQUALITY, WITHOUT_END,
 };
-use crate::spelled::relations;
+use crate::sample::parts;
+use crate::spelled::{Part, relations};
 use rml_base::{Bytes, Outcome, light_reflexive, same_reflexive};
-use rml_resolved::{Callee, Program};
+use rml_resolved::Program;
 use rml_search::{Searched, search};
-use rml_value::{NONE, TRUE};
 use std::alloc::Global;
 use std::test::Fail;
-
-// the relations after `main`, and some built-ins
-const F: Part = Call(Callee::Rel(MAIN + 1));
-
-const G: Part = Call(Callee::Rel(MAIN + 2));
-
-const INT_ADD: Part = Call(Callee::Built(0));
-
-const INT_SUB: Part = Call(Callee::Built(1));
-
-const INT_MUL: Part = Call(Callee::Built(2));
-
-const INT_DIV: Part = Call(Callee::Built(3));
-
-const INT_LT: Part = Call(Callee::Built(9));
-
-const INT_GE: Part = Call(Callee::Built(12));
-
-const INT_STRING: Part = Call(Callee::Built(15));
-
-const LVAR_NEW: Part = Call(Callee::Built(24));
-
-const LVAR_GET: Part = Call(Callee::Built(25));
-
-const LVAR_SET: Part = Call(Callee::Built(26));
-
-const PRINT: Part = Call(Callee::Built(27));
-
-const LIST_VECTOR: Part = Call(Callee::Built(28));
-
-const VECTOR_LIST: Part = Call(Callee::Built(29));
-
-const VECTOR_LENGTH: Part = Call(Callee::Built(30));
-
-const VECTOR_NTH: Part = Call(Callee::Built(31));
-
-/// `main` prints `hi` and a line end.
-const HELLO: &[&[Part]] = &[&[Any, Head], &[Text(HI), PRINT], &[Rule, Relation]];
-
-/// `f` gives 1, and then 2; `main` asks for 2.
-const FIRST_ANSWER: &[&[Part]] = &[
-    &[Any, Head],
-    &[Set(0), F],
-    &[Get(0), Int(2), Equal],
-    &[Rule, Relation],
-    &[Head],
-    &[Int(1), Rule],
-    &[Head],
-    &[Int(2), Rule, Relation],
-];
-
-/// `main` prints and fails: 2 is not below 1.
-const FAILURE: &[&[Part]] = &[
-    &[Any, Head],
-    &[Text(A), PRINT],
-    &[Int(2), Int(1), Case(TRUE, 0), INT_LT],
-    &[Rule, Relation],
-];
-
-/// `f` calls itself.
-const WITHOUT_END: &[&[Part]] = &[
-    &[Any, Head],
-    &[Set(0), Int(0), Let],
-    &[Get(0), F],
-    &[Rule, Relation],
-    &[Set(0), Head],
-    &[Get(0), F],
-    &[Rule, Relation],
-];
-
-/// `f` sets its argument, prints and fails in its first rule, and prints in the second where the argument is unset.
-const UNDONE_SETTINGS: &[&[Part]] = &[
-    &[Any, Head],
-    &[Set(0), LVAR_NEW],
-    &[Get(0), F],
-    &[Rule, Relation],
-    &[Set(0), Head],
-    &[Get(0), Int(1), LVAR_SET],
-    &[Text(A), PRINT],
-    &[Int(2), Int(1), Case(TRUE, 0), INT_LT],
-    &[Rule],
-    &[Set(0), Head],
-    &[Get(0), Case(NONE, 0), LVAR_GET],
-    &[Text(B), PRINT],
-    &[Rule, Relation],
-];
-
-/// `f` sets its argument and prints, inside a `not` that succeeds; the argument is unset behind it.
-const NOT: &[&[Part]] = &[
-    &[Any, Head],
-    &[Set(0), LVAR_NEW],
-    &[Get(0), F],
-    &[Int(2), Int(1), Case(TRUE, 0), INT_LT],
-    &[All(2), Not],
-    &[Get(0), Case(NONE, 0), LVAR_GET],
-    &[Text(B), PRINT],
-    &[Rule, Relation],
-    &[Set(0), Head],
-    &[Get(0), Int(1), LVAR_SET],
-    &[Text(A), PRINT],
-    &[Rule, Relation],
-];
-
-/// The same with a `not` of a `not` of the call.
-const NOT_NOT: &[&[Part]] = &[
-    &[Any, Head],
-    &[Set(0), LVAR_NEW],
-    &[Get(0), F, Not, Not],
-    &[Get(0), Case(NONE, 0), LVAR_GET],
-    &[Text(B), PRINT],
-    &[Rule, Relation],
-    &[Set(0), Head],
-    &[Get(0), Int(1), LVAR_SET],
-    &[Text(A), PRINT],
-    &[Rule, Relation],
-];
-
-/// `main` asks `f` for 5; `f` calls `g` in each of its two rules, and the first fails; `g` prints and gives its argument.
-const PRINTING_PREMISE: &[&[Part]] = &[
-    &[Any, Head],
-    &[Int(5), Set(0), F],
-    &[Get(0), Rule, Relation],
-    &[Set(0), Head],
-    &[Get(0), Set(1), G],
-    &[Get(1), Int(0), Case(TRUE, 0), INT_LT],
-    &[Get(1), Rule],
-    &[Set(0), Head],
-    &[Get(0), Set(1), G],
-    &[Get(1), Int(0), Case(TRUE, 0), INT_GE],
-    &[Get(1), Rule, Relation],
-    &[Set(0), Head],
-    &[Text(X), PRINT],
-    &[Get(0), Rule, Relation],
-];
-
-/// `main` evaluates 6 * (3 + 4) by `f`, prints the number and a line end, and gives it.
-const EVALUATOR: &[&[Part]] = &[
-    &[Any, Head],
-    &[
-        Int(6),
-        Tree(INT_TREE, 1),
-        Int(3),
-        Tree(INT_TREE, 1),
-        Int(4),
-        Tree(INT_TREE, 1),
-        Tree(ADD, 2),
-        Tree(MUL, 2),
-        Set(0),
-        F,
-    ],
-    &[Get(0), Set(1), INT_STRING],
-    &[Get(1), PRINT],
-    &[Text(LINE_END), PRINT],
-    &[Get(0), Rule, Relation],
-    &[Set(0), Case(INT_TREE, 1), Head],
-    &[Get(0), Rule],
-    &[Set(0), Set(1), Case(ADD, 2), Head],
-    &[Get(0), Set(2), F],
-    &[Get(1), Set(3), F],
-    &[Get(2), Get(3), Set(4), INT_ADD],
-    &[Get(4), Rule],
-    &[Set(0), Set(1), Case(SUB, 2), Head],
-    &[Get(0), Set(2), F],
-    &[Get(1), Set(3), F],
-    &[Get(2), Get(3), Set(4), INT_SUB],
-    &[Get(4), Rule],
-    &[Set(0), Set(1), Case(MUL, 2), Head],
-    &[Get(0), Set(2), F],
-    &[Get(1), Set(3), F],
-    &[Get(2), Get(3), Set(4), INT_MUL],
-    &[Get(4), Rule],
-    &[Set(0), Set(1), Case(DIV, 2), Head],
-    &[Get(0), Set(2), F],
-    &[Get(1), Set(3), F],
-    &[Get(2), Get(3), Set(4), INT_DIV],
-    &[Get(4), Rule, Relation],
-];
-
-/// The same with 1 / 0, for which no rule is left.
-const NO_RULE_LEFT: &[&[Part]] = &[
-    &[Any, Head],
-    &[
-        Int(1),
-        Tree(INT_TREE, 1),
-        Int(0),
-        Tree(INT_TREE, 1),
-        Tree(DIV, 2),
-        Set(0),
-        F,
-    ],
-    &[Text(A), PRINT],
-    &[Get(0), Rule, Relation],
-    &[Set(0), Case(INT_TREE, 1), Head],
-    &[Get(0), Rule],
-    &[Set(0), Set(1), Case(DIV, 2), Head],
-    &[Get(0), Set(2), F],
-    &[Get(1), Set(3), F],
-    &[Get(2), Get(3), Set(4), INT_DIV],
-    &[Get(4), Rule, Relation],
-];
-
-/// The item at 2 of a vector of 4, 5 and 6, and its length added.
-const VECTOR: &[&[Part]] = &[
-    &[Any, Head],
-    &[Int(4), Int(5), Int(6), ListOf(3), Set(0), LIST_VECTOR],
-    &[Get(0), Int(2), Set(1), VECTOR_NTH],
-    &[Get(0), Set(2), VECTOR_LENGTH],
-    &[Get(1), Get(2), Set(3), INT_ADD],
-    &[Get(3), Rule, Relation],
-];
-
-/// The item at 3, which is outside.
-const OUTSIDE: &[&[Part]] = &[
-    &[Any, Head],
-    &[Int(4), Int(5), Int(6), ListOf(3), Set(0), LIST_VECTOR],
-    &[Get(0), Int(3), Set(1), VECTOR_NTH],
-    &[Get(1), Rule, Relation],
-];
-
-/// Two vectors of a list are equal, and the list of one is that list.
-const VECTOR_EQUALITY: &[&[Part]] = &[
-    &[Any, Head],
-    &[Int(1), ListOf(1), Set(0), LIST_VECTOR],
-    &[Int(1), ListOf(1), Set(1), LIST_VECTOR],
-    &[Get(0), Get(1), Equal],
-    &[Get(0), Set(2), VECTOR_LIST],
-    &[Get(2), Int(1), ListOf(1), Equal],
-    &[Rule, Relation],
-];
-
-/// `main` gives a val, which is 3.
-const A_VAL: &[&[Part]] = &[&[Any, Head], &[Val(0), Rule, Relation]];
-
-/// A tuple against an integer has no meaning, so typing refuses this; no further rule is tried.
-const NO_MEANING: &[&[Part]] = &[
-    &[Any, Head],
-    &[Text(A), PRINT],
-    &[Any, Any, PairOf, Int(1), Let],
-    &[Text(B), PRINT],
-    &[Rule],
-    &[Any, Head],
-    &[Rule, Relation],
-];
-
-/// `main` prints its one argument and gives 7.
-const ARGUMENTS: &[&[Part]] = &[
-    &[Set(0), EmptyList, Chain(2), Head],
-    &[Get(0), PRINT],
-    &[Int(7), Rule, Relation],
-];
 
 fn program(alloc: Global, spelled: &[&[Part]], gives: bool) -> Result<Program, Fail> {
     let own = relations(alloc, spelled)?;
@@ -270,57 +21,330 @@ fn program(alloc: Global, spelled: &[&[Part]], gives: bool) -> Result<Program, F
     Ok(Program::checked(alloc, parts)?.ok_or("a program")?)
 }
 
-/// A program, whether its `main` gives an integer, the most steps, how its search without arguments ends, and what it
-/// prints.
-const ROWS: [(&[&[Part]], bool, u32, Outcome, &str); 25] = [
-    (HELLO, false, 0, Outcome::Cut, ""),
-    (HELLO, false, 1, Outcome::Cut, ""),
-    (HELLO, false, 2, Outcome::Cut, "hi\n"),
-    (HELLO, false, 3, Outcome::Answer(None), "hi\n"),
-    (HELLO, false, 9, Outcome::Answer(None), "hi\n"),
-    (FIRST_ANSWER, false, 99, Outcome::Failure, ""),
-    (FAILURE, false, 1, Outcome::Cut, ""),
-    (FAILURE, false, 2, Outcome::Failure, "a"),
-    (WITHOUT_END, false, 0, Outcome::Cut, ""),
-    (WITHOUT_END, false, 5, Outcome::Cut, ""),
-    (WITHOUT_END, false, 50, Outcome::Cut, ""),
-    (UNDONE_SETTINGS, false, 99, Outcome::Answer(None), "ab"),
-    (NOT, false, 99, Outcome::Answer(None), "ab"),
-    (NOT_NOT, false, 99, Outcome::Answer(None), "ab"),
-    (PRINTING_PREMISE, true, 12, Outcome::Cut, "xx"),
-    (PRINTING_PREMISE, true, 13, Outcome::Answer(Some(5)), "xx"),
-    (EVALUATOR, true, 20, Outcome::Cut, ""),
-    (EVALUATOR, true, 21, Outcome::Cut, "42\n"),
-    (EVALUATOR, true, 22, Outcome::Answer(Some(42)), "42\n"),
-    (NO_RULE_LEFT, true, 99, Outcome::Failure, ""),
-    (VECTOR, true, 99, Outcome::Answer(Some(9)), ""),
-    (OUTSIDE, true, 99, Outcome::Failure, ""),
-    (VECTOR_EQUALITY, false, 99, Outcome::Answer(None), ""),
-    (A_VAL, true, 99, Outcome::Answer(Some(3)), ""),
-    (NO_MEANING, false, 99, Outcome::Failure, "a"),
+/// The most steps of a search without arguments, how it ends, and what it prints.
+type Ends = &'static [(u32, Outcome, &'static str)];
+
+// main 1, its rule 2, the answer 3
+const HELLO_ENDS: Ends = &[
+    (0, Outcome::Cut, ""),
+    (1, Outcome::Cut, ""),
+    (2, Outcome::Cut, "hi\n"),
+    (3, Outcome::Answer(None), "hi\n"),
+    (9, Outcome::Answer(None), "hi\n"),
+];
+
+// main 1, its rule 2, f 3, its first rule 4, the answer 5
+const FIRST_ANSWER_ENDS: Ends = &[
+    (4, Outcome::Cut, ""),
+    (5, Outcome::Failure, ""),
+    (99, Outcome::Failure, ""),
+];
+
+const FAILURE_ENDS: Ends = &[(1, Outcome::Cut, ""), (2, Outcome::Failure, "a")];
+
+const WITHOUT_END_ENDS: Ends = &[
+    (0, Outcome::Cut, ""),
+    (5, Outcome::Cut, ""),
+    (50, Outcome::Cut, ""),
+];
+
+// main 1, its rule 2, f 3; f's first rule 4, g 5, its rule 6, its answer 7; f's second rule 8, g 9, its rule 10, its
+// answer 11; the answers 12 and 13
+const PRINTING_PREMISE_ENDS: Ends = &[
+    (5, Outcome::Cut, ""),
+    (6, Outcome::Cut, "x"),
+    (9, Outcome::Cut, "x"),
+    (10, Outcome::Cut, "xx"),
+    (12, Outcome::Cut, "xx"),
+    (13, Outcome::Answer(Some(5)), "xx"),
+];
+
+// main 1, its rules 2 and 3, the answer 4
+const RANGE_ENDS: Ends = &[
+    (2, Outcome::Cut, ""),
+    (3, Outcome::Cut, ""),
+    (4, Outcome::Answer(Some(-1_073_741_824)), ""),
+];
+
+// main 1, its rule 2, f 3, its rules 4 and 5, the answers 6 and 7
+const UNDONE_SETTINGS_ENDS: Ends = &[
+    (3, Outcome::Cut, ""),
+    (4, Outcome::Cut, "a"),
+    (5, Outcome::Cut, "ab"),
+    (6, Outcome::Cut, "ab"),
+    (7, Outcome::Answer(None), "ab"),
+    (99, Outcome::Answer(None), "ab"),
+];
+
+// main 1, its rule 2, f 3, its rule 4, its answer 5, the `not` 6, the answer 7
+const NOT_ENDS: Ends = &[
+    (3, Outcome::Cut, ""),
+    (4, Outcome::Cut, "a"),
+    (5, Outcome::Cut, "a"),
+    (6, Outcome::Cut, "ab"),
+    (7, Outcome::Answer(None), "ab"),
+    (99, Outcome::Answer(None), "ab"),
+];
+
+// main 1, its rule 2, f 3, its rule 4, its answer 5, the outer `not` 6, the answer 7; the inner `not` fails and takes
+// no step
+const NOT_NOT_ENDS: Ends = &[
+    (3, Outcome::Cut, ""),
+    (4, Outcome::Cut, "a"),
+    (5, Outcome::Cut, "a"),
+    (6, Outcome::Cut, "ab"),
+    (7, Outcome::Answer(None), "ab"),
+    (99, Outcome::Answer(None), "ab"),
+];
+
+// main 1, its rule 2; f of the product 3, its rules 4 to 7; f of 6 8 to 10; f of the sum 11, its rules 12 and 13; f of
+// 3 14 to 16; f of 4 17 to 19; the answers 20, 21 and 22
+const EVALUATOR_ENDS: Ends = &[
+    (20, Outcome::Cut, ""),
+    (21, Outcome::Cut, "42\n"),
+    (22, Outcome::Answer(Some(42)), "42\n"),
+];
+
+// main 1, its rule 2; f of the quotient 3, its rules 4 and 5; f of 1 6 to 8; f of 0 9 to 11
+const NO_RULE_LEFT_ENDS: Ends = &[
+    (10, Outcome::Cut, ""),
+    (11, Outcome::Failure, ""),
+    (99, Outcome::Failure, ""),
+];
+
+// built-ins take no step: main 1, its rule 2, the answer 3
+const VECTOR_ENDS: Ends = &[
+    (2, Outcome::Cut, ""),
+    (3, Outcome::Answer(Some(9)), ""),
+    (99, Outcome::Answer(Some(9)), ""),
+];
+
+const OUTSIDE_ENDS: Ends = &[
+    (1, Outcome::Cut, ""),
+    (2, Outcome::Failure, ""),
+    (99, Outcome::Failure, ""),
+];
+
+const VECTOR_EQUALITY_ENDS: Ends = &[
+    (2, Outcome::Cut, ""),
+    (3, Outcome::Answer(None), ""),
+    (99, Outcome::Answer(None), ""),
+];
+
+// main 1, its rule 2, f 3, its rules 4 to 6, the answers 7 and 8
+const LISTS_ENDS: Ends = &[(7, Outcome::Cut, ""), (8, Outcome::Answer(Some(2)), "")];
+
+const A_VAL_ENDS: Ends = &[
+    (2, Outcome::Cut, ""),
+    (3, Outcome::Answer(Some(3)), ""),
+    (99, Outcome::Answer(Some(3)), ""),
+];
+
+// main 1, its rule 2, f 3, its rule 4, the answers 5 and 6
+const BY_A_VARIABLE_ENDS: Ends = &[
+    (3, Outcome::Cut, ""),
+    (4, Outcome::Cut, "a"),
+    (5, Outcome::Cut, "a"),
+    (6, Outcome::Answer(Some(4)), "a"),
+];
+
+// main 1, its rules 2 and 3, main 4, its first rule 5, the answers 6 and 7
+const BY_A_VAL_ENDS: Ends = &[
+    (4, Outcome::Cut, ""),
+    (5, Outcome::Cut, "a"),
+    (6, Outcome::Cut, "ab"),
+    (7, Outcome::Answer(None), "ab"),
+];
+
+const NO_MEANING_ENDS: Ends = &[
+    (1, Outcome::Cut, ""),
+    (2, Outcome::Failure, "a"),
+    (99, Outcome::Failure, "a"),
+];
+
+// main 1, its first rule 2, the call 3
+const INTEGER_CALLED_ENDS: Ends = &[
+    (1, Outcome::Cut, ""),
+    (2, Outcome::Cut, "a"),
+    (3, Outcome::Failure, "a"),
+    (99, Outcome::Failure, "a"),
+];
+
+const INTEGER_CALLED_BY_A_VAL_ENDS: Ends = &[
+    (2, Outcome::Cut, "a"),
+    (3, Outcome::Failure, "a"),
+    (99, Outcome::Failure, "a"),
+];
+
+// main 1, its first rule 2, f 3, its first rule 4
+const FEWER_PATTERNS_ENDS: Ends = &[
+    (3, Outcome::Cut, "a"),
+    (4, Outcome::Failure, "a"),
+    (99, Outcome::Failure, "a"),
+];
+
+const MORE_PATTERNS_ENDS: Ends = &[
+    (3, Outcome::Cut, "a"),
+    (4, Outcome::Failure, "a"),
+    (99, Outcome::Failure, "a"),
+];
+
+// main 1, its first rule 2, f 3, its rule 4, its answer 5
+const RESULT_WITHOUT_PATTERN_ENDS: Ends = &[
+    (4, Outcome::Cut, "a"),
+    (5, Outcome::Failure, "a"),
+    (99, Outcome::Failure, "a"),
+];
+
+const PATTERN_WITHOUT_RESULT_ENDS: Ends = &[
+    (4, Outcome::Cut, "a"),
+    (5, Outcome::Failure, "a"),
+    (99, Outcome::Failure, "a"),
+];
+
+/// At how many steps a search of a program first ends otherwise, or prints something else.
+fn differs_at(
+    alloc: Global,
+    spelled: &[&[Part]],
+    gives: bool,
+    ends: Ends,
+) -> Result<Option<u32>, Fail> {
+    let program = program(alloc, spelled, gives)?;
+    for (n, outcome, text) in ends {
+        let ended = search(alloc, &program, &[], *n)?;
+        if ended.0 != *outcome || ended.1.as_slice() != text.as_bytes() {
+            return Ok(Some(*n));
+        }
+    }
+    Ok(None)
+}
+
+/// Programs whose rules and calls follow one another, each with whether its `main` gives an integer.
+const RULES: [(&[&[Part]], bool, Ends); 6] = [
+    (HELLO, false, HELLO_ENDS),
+    (FIRST_ANSWER, false, FIRST_ANSWER_ENDS),
+    (FAILURE, false, FAILURE_ENDS),
+    (WITHOUT_END, false, WITHOUT_END_ENDS),
+    (PRINTING_PREMISE, true, PRINTING_PREMISE_ENDS),
+    (RANGE, true, RANGE_ENDS),
 ];
 
 #[test]
-fn searches_end_as_counted_by_hand(rt: HostRuntime) -> Result<(), Fail> {
+fn rules_are_tried_from_top_to_bottom(rt: HostRuntime) -> Result<(), Fail> {
     let alloc = rt.alloc();
-    for (i, (spelled, gives, n, outcome, text)) in ROWS.iter().enumerate() {
-        let program = program(alloc, spelled, *gives)?;
-        let ended = search(alloc, &program, &[], *n)?;
-        assert_eq!(rt; ended.0, *outcome, "row {i}");
-        assert_eq!(rt; ended.1.as_slice(), text.as_bytes(), "row {i}");
+    for (i, (spelled, gives, ends)) in RULES.iter().enumerate() {
+        assert_eq!(rt; differs_at(alloc, spelled, *gives, *ends)?, None, "row {i}");
     }
     Ok(())
 }
 
+/// Programs that go back to an earlier setting.
+const SETTINGS: [(&[&[Part]], bool, Ends); 3] = [
+    (UNDONE_SETTINGS, false, UNDONE_SETTINGS_ENDS),
+    (NOT, false, NOT_ENDS),
+    (NOT_NOT, false, NOT_NOT_ENDS),
+];
+
+#[test]
+fn settings_are_undone(rt: HostRuntime) -> Result<(), Fail> {
+    let alloc = rt.alloc();
+    for (i, (spelled, gives, ends)) in SETTINGS.iter().enumerate() {
+        assert_eq!(rt; differs_at(alloc, spelled, *gives, *ends)?, None, "row {i}");
+    }
+    Ok(())
+}
+
+/// Programs over trees.
+const TREES: [(&[&[Part]], bool, Ends); 2] = [
+    (EVALUATOR, true, EVALUATOR_ENDS),
+    (NO_RULE_LEFT, true, NO_RULE_LEFT_ENDS),
+];
+
+#[test]
+fn evaluators_end_as_counted(rt: HostRuntime) -> Result<(), Fail> {
+    let alloc = rt.alloc();
+    for (i, (spelled, gives, ends)) in TREES.iter().enumerate() {
+        assert_eq!(rt; differs_at(alloc, spelled, *gives, *ends)?, None, "row {i}");
+    }
+    Ok(())
+}
+
+/// Programs over vectors, lists and vals, and calls of values.
+const VALUES: [(&[&[Part]], bool, Ends); 7] = [
+    (VECTOR, true, VECTOR_ENDS),
+    (OUTSIDE, true, OUTSIDE_ENDS),
+    (VECTOR_EQUALITY, false, VECTOR_EQUALITY_ENDS),
+    (LISTS, true, LISTS_ENDS),
+    (A_VAL, true, A_VAL_ENDS),
+    (BY_A_VARIABLE, true, BY_A_VARIABLE_ENDS),
+    (BY_A_VAL, false, BY_A_VAL_ENDS),
+];
+
+#[test]
+fn values_take_no_step(rt: HostRuntime) -> Result<(), Fail> {
+    let alloc = rt.alloc();
+    for (i, (spelled, gives, ends)) in VALUES.iter().enumerate() {
+        assert_eq!(rt; differs_at(alloc, spelled, *gives, *ends)?, None, "row {i}");
+    }
+    Ok(())
+}
+
+/// Programs that typing refuses.
+const UNTYPED: [(&[&[Part]], bool, Ends); 7] = [
+    (NO_MEANING, false, NO_MEANING_ENDS),
+    (INTEGER_CALLED, false, INTEGER_CALLED_ENDS),
+    (INTEGER_CALLED_BY_A_VAL, false, INTEGER_CALLED_BY_A_VAL_ENDS),
+    (FEWER_PATTERNS, false, FEWER_PATTERNS_ENDS),
+    (MORE_PATTERNS, false, MORE_PATTERNS_ENDS),
+    (RESULT_WITHOUT_PATTERN, false, RESULT_WITHOUT_PATTERN_ENDS),
+    (PATTERN_WITHOUT_RESULT, false, PATTERN_WITHOUT_RESULT_ENDS),
+];
+
+#[test]
+fn what_has_no_meaning_ends_a_search(rt: HostRuntime) -> Result<(), Fail> {
+    let alloc = rt.alloc();
+    for (i, (spelled, gives, ends)) in UNTYPED.iter().enumerate() {
+        assert_eq!(rt; differs_at(alloc, spelled, *gives, *ends)?, None, "row {i}");
+    }
+    Ok(())
+}
+
+/// A program, whether its `main` gives an integer, the arguments, the most steps, how its search ends, and what it prints.
+const ROWS_OF_ARGUMENTS: [(&[&[Part]], bool, &[&str], u32, Outcome, &str); 16] = [
+    // main 1, its rule 2, the answer 3
+    (ARGUMENTS, true, &["bc"], 1, Outcome::Cut, ""),
+    (ARGUMENTS, true, &["bc"], 2, Outcome::Cut, "bc"),
+    (ARGUMENTS, true, &["bc"], 3, Outcome::Answer(Some(7)), "bc"),
+    (ARGUMENTS, true, &["bc"], 99, Outcome::Answer(Some(7)), "bc"),
+    (ARGUMENTS, true, &[], 1, Outcome::Cut, ""),
+    (ARGUMENTS, true, &[], 2, Outcome::Failure, ""),
+    (ARGUMENTS, true, &["b", "c"], 1, Outcome::Cut, ""),
+    (ARGUMENTS, true, &["b", "c"], 2, Outcome::Failure, ""),
+    // main 1, its rule 2; f 3, its rules 4 and 5; f 6, its rules 7 and 8; f 9, its first rule 10; the answers 11 to 14
+    (ECHO, false, &["a", "bc"], 4, Outcome::Cut, ""),
+    (ECHO, false, &["a", "bc"], 5, Outcome::Cut, "a"),
+    (ECHO, false, &["a", "bc"], 7, Outcome::Cut, "a"),
+    (ECHO, false, &["a", "bc"], 8, Outcome::Cut, "abc"),
+    (ECHO, false, &["a", "bc"], 13, Outcome::Cut, "abc"),
+    (ECHO, false, &["a", "bc"], 14, Outcome::Answer(None), "abc"),
+    // main 1, its rule 2, f 3, its first rule 4, the answers 5 and 6
+    (ECHO, false, &[], 5, Outcome::Cut, ""),
+    (ECHO, false, &[], 6, Outcome::Answer(None), ""),
+];
+
 #[test]
 fn arguments_are_a_list_of_texts(rt: HostRuntime) -> Result<(), Fail> {
     let alloc = rt.alloc();
-    let program = program(alloc, ARGUMENTS, true)?;
-    let args = [Bytes::of(Vec::from_slice(alloc, b"bc")?)];
-    let ended = search(alloc, &program, &args, 99)?;
-    assert_eq!(rt; ended.0, Outcome::Answer(Some(7)));
-    assert_eq!(rt; ended.1.as_slice(), b"bc".as_slice());
-    assert_eq!(rt; search(alloc, &program, &[], 99)?.0, Outcome::Failure);
+    for (i, (spelled, gives, words, n, outcome, text)) in ROWS_OF_ARGUMENTS.iter().enumerate() {
+        let program = program(alloc, spelled, *gives)?;
+        let mut args = Vec::new(alloc);
+        for word in *words {
+            args.push(Bytes::of(Vec::from_slice(alloc, word.as_bytes())?))?;
+        }
+        let ended = search(alloc, &program, &args, *n)?;
+        assert_eq!(rt; ended.0, *outcome, "row {i}");
+        assert_eq!(rt; ended.1.as_slice(), text.as_bytes(), "row {i}");
+    }
     Ok(())
 }
 

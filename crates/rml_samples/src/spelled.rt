@@ -17,6 +17,7 @@ pub enum Part {
     Text(u32),
     Get(u32),
     Val(u32),
+    Rel(u32),
     Tree(u32, usize),
     ListOf(usize),
     // patterns
@@ -24,8 +25,9 @@ pub enum Part {
     Set(u32),
     Case(u32, usize),
     PairOf,
-    EmptyList,
+    Listed(usize),
     Chain(usize),
+    As(u32),
     // goals: a call takes all expressions and patterns
     Call(Callee),
     Equal,
@@ -70,6 +72,7 @@ fn add_exp(alloc: Global, read: &mut Read, part: Part) -> Result<(), Memory> {
         Part::Text(k) => RExp::Lit(Lit::Text(k)),
         Part::Get(x) => RExp::Var(x),
         Part::Val(k) => RExp::Val(k),
+        Part::Rel(r) => RExp::Rel(r),
         Part::Tree(c, count) => RExp::Con(c, last(alloc, &mut read.exps, count)?),
         Part::ListOf(count) => RExp::List(last(alloc, &mut read.exps, count)?),
         _ => return Ok(()),
@@ -78,20 +81,30 @@ fn add_exp(alloc: Global, read: &mut Read, part: Part) -> Result<(), Memory> {
     Ok(())
 }
 
+/// The pattern that a part ends, if its own parts are there.
+fn pattern_of(alloc: Global, read: &mut Read, part: Part) -> Result<Option<RPat>, Memory> {
+    match part {
+        Part::Any => Ok(Some(RPat::Any)),
+        Part::Set(x) => Ok(Some(RPat::Var(x))),
+        Part::Case(c, count) => Ok(Some(RPat::Con(c, last(alloc, &mut read.patterns, count)?))),
+        Part::PairOf => Ok(Some(RPat::Tuple(last(alloc, &mut read.patterns, 2)?))),
+        Part::Listed(count) => Ok(Some(RPat::List(last(alloc, &mut read.patterns, count)?))),
+        Part::Chain(count) => Ok(Some(RPat::Cons(last(alloc, &mut read.patterns, count)?))),
+        Part::As(x) => match read.patterns.pop() {
+            Some(pattern) => Ok(Some(RPat::Bind(x, Boxed::new(alloc, pattern)?))),
+            None => Ok(None),
+        },
+        _ => Ok(None),
+    }
+}
+
 fn add_pattern(alloc: Global, read: &mut Read, part: Part) -> Result<(), Memory> {
-    let pattern = match part {
-        Part::Any => RPat::Any,
-        Part::Set(x) => RPat::Var(x),
-        Part::Case(c, count) => RPat::Con(c, last(alloc, &mut read.patterns, count)?),
-        Part::PairOf => RPat::Tuple(last(alloc, &mut read.patterns, 2)?),
-        Part::EmptyList => RPat::List(Items::new(alloc)),
-        Part::Chain(count) => RPat::Cons(last(alloc, &mut read.patterns, count)?),
-        _ => return Ok(()),
-    };
-    if matches!(part, Part::Set(_)) {
+    if matches!(part, Part::Set(_) | Part::As(_)) {
         read.vars = u32::wrapping_add(read.vars, 1);
     }
-    read.patterns.push(pattern)?;
+    if let Some(pattern) = pattern_of(alloc, read, part)? {
+        read.patterns.push(pattern)?;
+    }
     Ok(())
 }
 
