@@ -1,0 +1,7 @@
+pub mod Follow
+pub mod SimulatesMoves
+pub mod Followed
+pub mod Carried
+pub mod Learned
+pub mod Silent
+pub mod Tried

@@ -1,0 +1,9 @@
+use Rattle.rml_base.proofs.LightLaws.{light_transitive}
+use Rattle.rml_base.proofs.SameLaws.{light_same}
+use Rattle.rml_simulation.proofs.laws.runs_at_a_limit.Goals as goal
+
+pub returns-clause-same : goal.returns-clause-same
+returns-clause-same c = light_same
+
+pub returns-clause-transitive : goal.returns-clause-transitive
+returns-clause-transitive c = light_transitive

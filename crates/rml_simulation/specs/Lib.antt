@@ -1,0 +1,16 @@
+pub mod Partial
+pub mod Growing
+pub mod GrowingLaws
+pub mod Alike
+pub mod AlikeLaws
+pub mod Exact
+pub mod ExactLaws
+pub mod Calls
+pub mod CallsLaws
+pub mod Acts
+pub mod ActsLaws
+pub mod Simulates
+pub mod Moves
+pub mod Carries
+pub mod Known
+pub mod Examples
