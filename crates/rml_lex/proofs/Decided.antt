@@ -8,7 +8,7 @@ use Rattle.rml_lex.specs.declared.piece.Piece.{Piece}
 use Rattle.rml_lex.specs.declared.piece.Piece.TheVariants as piece
 use Rattle.rml_lex.specs.Machine.{Longest, Stuck}
 use Rattle.rml_lex.specs.Places.{place_after, start}
-use Rattle.rml_lex.specs.Reading.{IsRead, IsSound, Part, Reaches, behind, marks}
+use Rattle.rml_lex.specs.Reading.{HasReading, IsSound, Part, Reaches, behind, marks}
 use Rattle.rml_lex.specs.Spelling.{whole}
 use Rattle.rml_lex.proofs.Longests.{longest-pos}
 
@@ -88,9 +88,9 @@ outcome (suc fuel) (b ∷ bs) le = elim (longest-or-stuck whole (b ∷ bs)) [
   ]
 ]
 
-pub is-read : (text : ℕ) (bytes : List ℕ) → IsRead text bytes
+pub is-read : (text : ℕ) (bytes : List ℕ) → HasReading text bytes
 is-read text bytes = go (outcome (length bytes) bytes (omega arith)) where
-  go : Outcome bytes → IsRead text bytes
+  go : Outcome bytes → HasReading text bytes
   go (All parts r) = inl (marks (start text) parts, (parts, r, refl))
   go (Fails parts rest r (inl (pos, stuck))) = inr (behind (start text) parts, BadByte, (parts, rest, r, inl (pos, stuck, refl, refl)))
   go (Fails parts rest r (inr (n, k, at, l))) = inr (place_after (behind (start text) parts) (take at (take n rest)), k, (parts, rest, r, inr (n, at, l, refl)))

@@ -8,11 +8,12 @@ use Rattle.rml_lex.specs.Places.{place_after, start}
 use Rattle.rml_lex.specs.Reading.{AllGiven, Part, Reaches, IsSound, Faults, FirstFault, IsFault, Shown, Spelled, behind, marks, shown}
 use Rattle.rml_lex.specs.Numbered.{IsNumbered, names_in, spots_in, with_names}
 use Rattle.rml_lex.proofs.SoFar.{spots-numbered}
+use Rattle.rml_base.specs.Answers.{Explains, Gives, Refuses}
 use Rattle.rml_base.specs.Numbering.{IsDistinct}
 use Rattle.rml_lex.specs.declared.tokens.LexErr.{LexErr}
 use Rattle.rml_lex.specs.declared.tokens.LexErr.TheVariants as error
 use Rattle.rml_syntax.specs.declared.token.Spot.{Spot}
-use Rattle.std.specs.Prelude.{Result, Ok, Err, Vec, IfOk, IfErr, MatchResult, ◌⊎◌}
+use Rattle.std.specs.Prelude.{Result, Ok, Err, Vec, IfOk}
 use Rattle.std.specs.declared.alloc.Global.{Global}
 use Rattle.rml_base.specs.declared.place.Place.{Place}
 use Rattle.rml_lex.specs.declared.piece.LexKind.{LexKind}
@@ -112,24 +113,25 @@ pub unspelled : (text : ℕ) (bytes : List ℕ) (a : List (Place × Shown)) (pla
 unspelled text bytes a place kind s f = no-fault s.0 f.0 bytes f.1 _ place kind s.1 f.2 f.3
 
 -- what an answer can be, where its tokens are spelled and its fault is the first
-pub spelled-only : (text : ℕ) (bytes : List ℕ) (names : List (List ℕ)) (r : Result (Vec Spot Global) LexErr) (spots : List (Place × Shown)) → Spelled text bytes spots → IfOk r (λ v. Spelled text bytes (shown names v.items)) → IfErr r (IsFault text bytes)
-    → MatchResult r (λ v. shown names v.items ≡ spots) (λ e. e ≡ error.Memory)
-spelled-only text bytes names (Ok v) spots s ok fault = one-list text bytes (shown names v.items) spots ok s
-spelled-only text bytes names (Err (error.At place kind)) spots s ok fault = absurd (unspelled text bytes spots place kind s fault)
-spelled-only text bytes names (Err error.Memory) spots s ok fault = refl
+pub spelled-only : (text : ℕ) (bytes : List ℕ) (names : List (List ℕ)) (r : Result (Vec Spot Global) LexErr) (spots : List (Place × Shown)) → Spelled text bytes spots → Explains error.Memory r (λ v. Spelled text bytes (shown names v.items)) (IsFault text bytes)
+    → Gives error.Memory r (λ v. shown names v.items ≡ spots)
+spelled-only text bytes names (Ok v) spots s so = one-list text bytes (shown names v.items) spots so s
+spelled-only text bytes names (Err (error.At place kind)) spots s so = absurd (unspelled text bytes spots place kind s (so (λ e. cc)))
+spelled-only text bytes names (Err error.Memory) spots s so = refl
 
-pub first-only : (text : ℕ) (bytes : List ℕ) (names : List (List ℕ)) (r : Result (Vec Spot Global) LexErr) (place : Place) (kind : LexKind) → FirstFault text bytes place kind → IfOk r (λ v. Spelled text bytes (shown names v.items)) → IfErr r (IsFault text bytes)
-    → MatchResult r (λ _. ⊥) (λ e. (e ≡ error.At place kind) ⊎ (e ≡ error.Memory))
-first-only text bytes names (Ok v) place kind f ok fault = unspelled text bytes (shown names v.items) place kind ok f
-first-only text bytes names (Err (error.At p k)) place kind f ok fault =
+pub first-only : (text : ℕ) (bytes : List ℕ) (names : List (List ℕ)) (r : Result (Vec Spot Global) LexErr) (place : Place) (kind : LexKind) → FirstFault text bytes place kind → Explains error.Memory r (λ v. Spelled text bytes (shown names v.items)) (IsFault text bytes)
+    → Refuses error.Memory r (λ e. e ≡ error.At place kind)
+first-only text bytes names (Ok v) place kind f so = unspelled text bytes (shown names v.items) place kind so f
+first-only text bytes names (Err (error.At p k)) place kind f so =
+    let fault : FirstFault text bytes p k = so (λ e. cc) in
     let same = same-fault fault.0 f.0 bytes fault.1 f.1 (start text) p place k kind fault.2 f.2 fault.3 f.3 in
     inl (rw (same.0, same.1) refl)
-first-only text bytes names (Err error.Memory) place kind f ok fault = inr refl
+first-only text bytes names (Err error.Memory) place kind f so = inr refl
 
 -- the numbers, where the tokens are those that are spelled
-pub numbered-only : (text : ℕ) (bytes : List ℕ) (old new : List (List ℕ)) (r : Result (Vec Spot Global) LexErr) (spots : List (Place × Shown)) → Spelled text bytes spots → IfOk r (λ v. Spelled text bytes (shown new v.items))
+pub numbered-only : (text : ℕ) (bytes : List ℕ) (old new : List (List ℕ)) (r : Result (Vec Spot Global) LexErr) (spots : List (Place × Shown)) → Spelled text bytes spots → Explains error.Memory r (λ v. Spelled text bytes (shown new v.items)) (IsFault text bytes)
     → IfOk r (λ v. AllGiven (length new) v.items) → IfOk r (λ v. new ≡ with_names old (names_in (shown new v.items))) → IsDistinct new → IfOk r (λ v. IsNumbered old spots v.items new)
-numbered-only text bytes old new (Ok v) spots s ok given numbers d =
-    let same : shown new v.items ≡ spots = one-list text bytes (shown new v.items) spots ok s in
+numbered-only text bytes old new (Ok v) spots s so given numbers d =
+    let same : shown new v.items ≡ spots = one-list text bytes (shown new v.items) spots so s in
     record { names = numbers ∙ ap (λ x. with_names old (names_in x)) same; tokens = spots-numbered new v.items d given ∙ ap (spots_in new) same }
-numbered-only text bytes old new (Err e) spots s ok given numbers d = tt
+numbered-only text bytes old new (Err e) spots s so given numbers d = tt

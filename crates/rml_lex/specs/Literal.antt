@@ -1,5 +1,6 @@
 -- Texts after their opening ", and chars after their opening #", read a byte at a time.
 use Rattle.std.specs.Prelude.{◌≡◌, ℕ, ◌+◌, ◌≤◌, nat_le, List, Option, Some, None, if◌then◌else◌}
+use Rattle.rml_base.specs.declared.limits.TheConstants.{LITERAL}
 use Rattle.rml_lex.specs.declared.piece.LexKind.TheVariants.{OpenString, BadEscape, BadByte, LongString}
 use Rattle.rml_lex.specs.declared.piece.Piece.{Piece}
 use Rattle.rml_lex.specs.declared.piece.Piece.TheVariants as piece
@@ -24,7 +25,7 @@ stopped (TwoDigits v) at = piece.Faulty BadEscape at
 
 -- a text of so many characters, at its closing quote
 abbrev pub closed_text : ℕ → Piece
-closed_text count = if nat_le count 65535 then piece.Text else piece.Faulty LongString 0
+closed_text count = if nat_le count LITERAL then piece.Text else piece.Faulty LongString 0
 
 abbrev pub text_moves : InText → Read → Move InText
 text_moves s (Part next) = On (record { at = s.at; count = s.count; inside = next })

@@ -112,9 +112,10 @@ abbrev pub IsTokenOf : List (List ℕ) → Part → Option Token → Type 0
 IsTokenOf names part None = tokens_of part ≡ []
 IsTokenOf names part (Some t) = (tokens_of part ≡ shown_token names t ∷ []) × IsGiven (length names) t
 
+-- the error names the first fault
 abbrev pub IsFault : ℕ → List ℕ → LexErr → Type 0
 IsFault text bytes (error.At place kind) = FirstFault text bytes place kind
-IsFault text bytes error.Memory = Unit {0}
+IsFault text bytes error.Memory = ⊥
 
 -- What has been read of the bytes: the rest, its place, the tokens so far and the names.
 pub record Reads (text : ℕ) (bytes : List ℕ) (old : List (List ℕ)) (rest : List ℕ) (at : Place) (spots : List Spot) (now : List (List ℕ)) : Type 0 where
@@ -126,5 +127,5 @@ pub record Reads (text : ℕ) (bytes : List ℕ) (old : List (List ℕ)) (rest :
   pub names : (more : List (List ℕ)) × (now ≡ old ++ more) × (length more + length rest ≤ length bytes)
 
 -- the bytes spell some tokens, or have a first fault
-abbrev pub IsRead : ℕ → List ℕ → Type 0
-IsRead text bytes = ((spots : List (Place × Shown)) × Spelled text bytes spots) ⊎ ((place : Place) × (kind : LexKind) × FirstFault text bytes place kind)
+abbrev pub HasReading : ℕ → List ℕ → Type 0
+HasReading text bytes = ((spots : List (Place × Shown)) × Spelled text bytes spots) ⊎ ((place : Place) × (kind : LexKind) × FirstFault text bytes place kind)

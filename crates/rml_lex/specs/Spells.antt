@@ -2,6 +2,7 @@
 -- faults among them. `whole` decides it.
 use Rattle.std.specs.Prelude.{◌≡◌, ℕ, ◌<◌, ◌≤◌, Bool, true, false, List, [], ◌∷◌, ◌++◌, length, take, Some, ◌⊎◌, IsTrue}
 use Rattle.std.specs.List.{list_all}
+use Rattle.rml_base.specs.declared.limits.TheConstants.{LITERAL}
 use Rattle.rml_syntax.specs.declared.token.Key.{Key}
 use Rattle.rml_lex.specs.declared.piece.LexKind.{LexKind}
 use Rattle.rml_lex.specs.declared.piece.LexKind.TheVariants as kind
@@ -130,7 +131,7 @@ SpellsFault s kind.BadEscape at =
     ⊎ ((inside : List ℕ) × (v : ℕ) × (w : ℕ) × (s ≡ 35 ∷ 34 ∷ inside) × AreCharacters inside (v ∷ w ∷ []) × (at ≡ 0))
 SpellsFault s kind.IntRange at = (is_negative : Bool) × (n : ℕ) × IsInt s is_negative n × (limit is_negative < n) × (at ≡ 0)
 SpellsFault s kind.Real at = IsReal s × (at ≡ 0)
-SpellsFault s kind.LongString at = (values : List ℕ) × IsText s values × (65535 < length values) × (at ≡ 0)
+SpellsFault s kind.LongString at = (values : List ℕ) × IsText s values × (LITERAL < length values) × (at ≡ 0)
 
 -- the whole of the bytes is this piece
 abbrev pub Spells : List ℕ → Piece → Type 0
@@ -141,7 +142,7 @@ Spells s piece.Name = IsNameLike s × ((k : Key) → s ≡ word_spelling k → �
 Spells s piece.TyVar = (name : List ℕ) × (s ≡ 39 ∷ name) × IsNameLike name
 Spells s (piece.Int i) = (is_negative : Bool) × (n : ℕ) × IsInt s is_negative n × (n ≤ limit is_negative) × (i ≡ int_value is_negative n)
 Spells s (piece.Char v) = (inside : List ℕ) × (s ≡ 35 ∷ 34 ∷ inside ++ 34 ∷ []) × IsCharacter inside v
-Spells s piece.Text = (values : List ℕ) × IsText s values × (length values ≤ 65535)
+Spells s piece.Text = (values : List ℕ) × IsText s values × (length values ≤ LITERAL)
 Spells s piece.Dashes = (2 ≤ length s) × IsTrue (list_all is_dash s)
 Spells s (piece.Sign m) = s ≡ sign_spelling m
 Spells s (piece.Faulty k at) = SpellsFault s k at

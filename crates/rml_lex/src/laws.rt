@@ -1,7 +1,7 @@
 //! What the definitions mean together. Each function is a law, and does nothing.
 
 ghost use Rattle.rml_base.specs.declared.place.Place.{Place};
-ghost use Rattle.rml_lex.specs.Reading.{FirstFault, IsRead, Part, Reaches, Shown, Spelled};
+ghost use Rattle.rml_lex.specs.Reading.{FirstFault, HasReading, Part, Reaches, Shown, Spelled};
 ghost use Rattle.rml_lex.specs.declared.piece.LexKind.{LexKind};
 ghost use Rattle.rml_lex.specs.Spelling.{whole};
 ghost use Rattle.rml_lex.specs.Spells.{BeginsNothing, IsLongest, IsText, Spells};
@@ -13,7 +13,7 @@ ghost use Rattle.std.specs.Prelude.{◌≡◌, ℕ, ◌+◌, ◌==◌, List, [],
 
 /// A text has its tokens or a first fault.
 pub fn each_is_read()
-    ensures { (text : ℕ) (bytes : List ℕ) → IsRead text bytes }
+    ensures { (text : ℕ) (bytes : List ℕ) → HasReading text bytes }
 {}
 
 /// A text has one cut into pieces, one list of tokens and one first fault, and not both tokens and a fault.

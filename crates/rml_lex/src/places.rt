@@ -1,5 +1,6 @@
 //! Where the bytes of a text stand.
 
+ghost use Rattle.rml_base.specs.declared.limits.TheConstants.{BYTES};
 ghost use Rattle.rml_lex.specs.Places.{place_after, start};
 ghost use Rattle.std.specs.Prelude.{◌≡◌, ◌+◌, ◌<◌, ◌≤◌, ◌^◌, length};
 
@@ -48,7 +49,7 @@ pub fn further(from: Place, bytes: &[u8]) -> Place
 
 /// The place behind the last byte of a text.
 pub fn end_place(text: u32, bytes: &[u8]) -> Place
-    requires { length bytes.now ≤ 1048576 }
+    requires { length bytes.now ≤ BYTES }
     ensures { result ≡ place_after (start text) bytes.now }
 {
     further(start_place(text), bytes)

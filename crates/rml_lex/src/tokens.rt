@@ -1,12 +1,14 @@
 //! The tokens of a text, with their places.
 
+ghost use Rattle.rml_base.specs.Answers.{Explains, Gives, Refuses};
 ghost use Rattle.rml_base.specs.Numbering.{GrowsBy};
+ghost use Rattle.rml_base.specs.declared.limits.TheConstants.{BYTES};
 ghost use Rattle.rml_base.specs.declared.place.Place.{Place};
 ghost use Rattle.rml_lex.specs.Reading.{AllGiven, FirstFault, IsFault, IsTokenOf, Shown, Spelled, shown, tokens_of};
 ghost use Rattle.rml_lex.specs.Numbered.{IsNumbered, bytes_in, names_in, with_names};
 ghost use Rattle.rml_lex.specs.declared.piece.LexKind.{LexKind};
 ghost use Rattle.rml_lex.specs.declared.tokens.LexErr.TheVariants as error;
-ghost use Rattle.std.specs.Prelude.{◌≡◌, ℕ, ◌<◌, ◌≤◌, ◌^◌, ◌-◌, List, length, IfErr, IfOk, MatchResult, OnOk, ◌⊎◌};
+ghost use Rattle.std.specs.Prelude.{◌≡◌, ℕ, ◌<◌, ◌≤◌, ◌^◌, ◌-◌, List, length, IfOk, OnOk};
 ghost use Rattle.std.specs.List.{flat_map};
 
 use crate::character::unescape;
@@ -76,17 +78,16 @@ fn token_of(
 /// with its old number where `names` knows it, and otherwise with the next one. After a fault `names` may have grown too, by
 /// at most as many names as there are bytes.
 pub fn lex(alloc: Global, text: u32, bytes: &[u8], names: &mut Names) -> Result<Vec<Spot>, LexErr>
-    requires size { length bytes.now ≤ 1048576 }
+    requires size { length bytes.now ≤ BYTES }
     requires room { length names.old ≤ 2 ^ 31 }
-    ensures ok { IfOk result (λ v. Spelled text bytes.now (shown names.new v.items)) }
+    ensures answer { Explains error.Memory result (λ v. Spelled text bytes.now (shown names.new v.items)) (IsFault text bytes.now) }
     ensures given { IfOk result (λ v. AllGiven (length names.new) v.items) }
-    ensures fault { IfErr result (IsFault text bytes.now) }
     ensures names { GrowsBy (length bytes.now) names.old names.new }
     // What is spelled is given, and a first fault is named: but for want of memory, no other answer comes.
-    ensures spelled { (spots : List (Place × Shown)) → Spelled text bytes.now spots → MatchResult result (λ v. shown names.new v.items ≡ spots) (λ e. e ≡ error.Memory) }
+    ensures spelled { (spots : List (Place × Shown)) → Spelled text bytes.now spots → Gives error.Memory result (λ v. shown names.new v.items ≡ spots) }
     // The numbers of the tokens follow from the text and the old names.
     ensures numbered { (spots : List (Place × Shown)) → Spelled text bytes.now spots → IfOk result (λ v. IsNumbered names.old spots v.items names.new) }
-    ensures first { (place : Place) (kind : LexKind) → FirstFault text bytes.now place kind → MatchResult result (λ _. ⊥) (λ e. (e ≡ error.At place kind) ⊎ (e ≡ error.Memory)) }
+    ensures first { (place : Place) (kind : LexKind) → FirstFault text bytes.now place kind → Refuses error.Memory result (λ e. e ≡ error.At place kind) }
 {
     let answer = read(alloc, text, bytes, names);
     names.are_distinct();
@@ -95,11 +96,10 @@ pub fn lex(alloc: Global, text: u32, bytes: &[u8], names: &mut Names) -> Result<
 
 /// The same, piece by piece.
 fn read(alloc: Global, text: u32, bytes: &[u8], names: &mut Names) -> Result<Vec<Spot>, LexErr>
-    requires size { length bytes.now ≤ 1048576 }
+    requires size { length bytes.now ≤ BYTES }
     requires room { length names.old ≤ 2 ^ 31 }
-    ensures ok { IfOk result (λ v. Spelled text bytes.now (shown names.new v.items)) }
+    ensures answer { Explains error.Memory result (λ v. Spelled text bytes.now (shown names.new v.items)) (IsFault text bytes.now) }
     ensures given { IfOk result (λ v. AllGiven (length names.new) v.items) }
-    ensures fault { IfErr result (IsFault text bytes.now) }
     ensures names { GrowsBy (length bytes.now) names.old names.new }
     ensures numbers { IfOk result (λ v. names.new ≡ with_names names.old (names_in (shown names.new v.items))) }
 {

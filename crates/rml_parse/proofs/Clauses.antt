@@ -6,7 +6,7 @@ use Rattle.rml_grammar.specs.declared.fault.Fault.{Fault}
 use Rattle.rml_grammar.specs.declared.fault.ParseKind.TheVariants as kind
 use Rattle.rml_parse.specs.declared.stop.Stop.{Stop}
 use Rattle.rml_parse.specs.declared.stop.Stop.TheVariants as stop
-use Rattle.rml_parse.specs.Gives.{Fails}
+use Rattle.rml_parse.specs.Mirrors.{Fails}
 use Rattle.rml_grammar.specs.Reading.{◌>>=◌, refused}
 use Rattle.rml_grammar.specs.Texts.{clause_next, clause_at, clauses_at}
 use Rattle.rml_parse.proofs.Loops.{with_front, no-front, front-more}

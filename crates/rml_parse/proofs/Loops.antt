@@ -4,7 +4,7 @@ use Rattle.rml_syntax.specs.declared.token.Spot.{Spot}
 use Rattle.rml_grammar.specs.declared.fault.Fault.{Fault}
 use Rattle.rml_parse.specs.declared.stop.Stop.{Stop}
 use Rattle.rml_parse.specs.declared.stop.Stop.TheVariants as stop
-use Rattle.rml_parse.specs.Gives.{Fails}
+use Rattle.rml_parse.specs.Mirrors.{Fails}
 use Rattle.rml_grammar.specs.Reading.{◌>>=◌, Parser, follows, repeated}
 
 -- items read before others

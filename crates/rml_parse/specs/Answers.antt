@@ -1,5 +1,6 @@
 -- The answers of the public call: a fault counts the tokens that are left, and is answered with its place.
 use Rattle.std.specs.Prelude.{◌≡◌, ℕ, suc, ◌-◌, ◌≤◌, List, [], ◌∷◌, ◌++◌, length, Option, Some, None, Result, Ok, Err, slice_get}
+use Rattle.rml_base.specs.Answers.{Explains}
 use Rattle.rml_base.specs.declared.place.Place.{Place}
 use Rattle.rml_syntax.specs.declared.token.Spot.{Spot}
 use Rattle.rml_syntax.specs.declared.texts.Text.{Text}
@@ -25,21 +26,19 @@ abbrev pub PlacedAs : Place → List Spot → Stop → ParseErr → Type 0
 PlacedAs end us stop.Memory e = e ≡ error.Memory
 PlacedAs end us (stop.At f) e = e ≡ error.At (place_left end f.left us) f.kind
 
--- the error is that of the fault which reading gives, unless memory ran out
-abbrev pub SaysErr : Place → List Spot → ParseErr → Result Text Fault → Type 0
-SaysErr end us error.Memory read = Unit {0}
-SaysErr end us (error.At p k) read = (f : Fault) × (read ≡ Err f) × (p ≡ place_left end f.left us) × (k ≡ f.kind)
+-- the error is the fault that reading gives, with its place
+abbrev pub IsFaultOf : Place → List Spot → Result Text Fault → ParseErr → Type 0
+IsFaultOf end us read error.Memory = ⊥
+IsFaultOf end us read (error.At p k) = (f : Fault) × (read ≡ Err f) × (p ≡ place_left end f.left us) × (k ≡ f.kind)
 
 -- the answer is what reading gives, unless memory ran out
 abbrev pub Says : Place → List Spot → Result Text ParseErr → Result Text Fault → Type 0
-Says end us (Ok t) read = read ≡ Ok t
-Says end us (Err e) read = SaysErr end us e read
+Says end us result read = Explains error.Memory result (λ t. read ≡ Ok t) (IsFaultOf end us read)
 
--- the tree t, or a limit, or no memory
-abbrev pub IsExact : Text → Result Text ParseErr → Type 0
-IsExact t (Ok u) = u ≡ t
-IsExact t (Err error.Memory) = Unit {0}
-IsExact t (Err (error.At p k)) = IsLimit k
+-- a limit is passed
+abbrev pub PassesLimit : ParseErr → Type 0
+PassesLimit error.Memory = ⊥
+PassesLimit (error.At p k) = IsLimit k
 
 -- So many tokens are left at the place, of which the first is the unexpected one: no tokens that begin with those up to
 -- it are a text's, wherever that ends. Where none is left, the place is the end.
@@ -48,13 +47,9 @@ pub record IsUnexpectedAt (end : Place) (us : List Spot) (p : Place) (left : ℕ
   pub place : p ≡ place_left end left us
   pub none : (at : Place) (c tail other : List Spot) (x : Spot) (t : Text) → us ≡ c ++ x ∷ tail → suc (length tail) ≡ left → Derives at (c ++ x ∷ other) t → ⊥
 
-abbrev pub PlacedErr : Place → List Spot → ParseErr → Type 0
-PlacedErr end us error.Memory = Unit {0}
-PlacedErr end us (error.At p kind.TooDeep) = Unit {0}
-PlacedErr end us (error.At p kind.TooManyRules) = Unit {0}
-PlacedErr end us (error.At p kind.Unexpected) = (left : ℕ) × IsUnexpectedAt end us p left
-
 -- what is unexpected is so at its place
-abbrev pub IsPlaced : Place → List Spot → Result Text ParseErr → Type 0
-IsPlaced end us (Ok t) = Unit {0}
-IsPlaced end us (Err e) = PlacedErr end us e
+abbrev pub IsPlaced : Place → List Spot → ParseErr → Type 0
+IsPlaced end us error.Memory = ⊥
+IsPlaced end us (error.At p kind.TooDeep) = Unit {0}
+IsPlaced end us (error.At p kind.TooManyRules) = Unit {0}
+IsPlaced end us (error.At p kind.Unexpected) = (left : ℕ) × IsUnexpectedAt end us p left

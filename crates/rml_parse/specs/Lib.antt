@@ -1,3 +1,3 @@
-pub mod Gives
+pub mod Mirrors
 pub mod Answers
 pub mod Limited

@@ -1,12 +1,15 @@
 //! The public call, and its answers.
 
-ghost use Rattle.std.specs.Prelude.{◌≡◌, ◌≤◌, IfOk, length};
+ghost use Rattle.std.specs.Prelude.{◌≡◌, ◌-◌, ◌≤◌, length};
+ghost use Rattle.rml_base.specs.Answers.{Explains, Gives};
+ghost use Rattle.rml_base.specs.declared.limits.TheConstants.{BYTES, NESTING, RULES};
 ghost use Rattle.rml_grammar.specs.Texts.{whole_text};
 ghost use Rattle.rml_syntax.specs.declared.texts.Text.{Text};
 ghost use Rattle.rml_grammar.specs.SpelledTexts.{Derives};
 ghost use Rattle.rml_grammar.specs.Limits.{WithinLimits};
-ghost use Rattle.rml_parse.specs.Answers.{IsExact, IsPlaced, Says, PlacedAs, place_left};
-ghost use Rattle.rml_parse.specs.Limited.{IsLimited, IsRead};
+ghost use Rattle.rml_parse.specs.Answers.{IsPlaced, PassesLimit, PlacedAs, Says, place_left};
+ghost use Rattle.rml_parse.specs.Limited.{IsLimited};
+ghost use Rattle.rml_parse.specs.declared.answer.ParseErr.TheVariants as error;
 
 use crate::stop::Stop;
 use crate::texts::whole;
@@ -29,29 +32,29 @@ pub enum ParseErr {
 /// bracket `(` or `[` that is the 201st open one; `TooManyRules` at the 4,097th rule of one relation. The earliest is
 /// named, and at one token `Unexpected`.
 pub fn parse(alloc: Global, spots: &[Spot], end: Place) -> Result<Text, ParseErr>
-    requires { length spots.now ≤ 1_048_576 }
-    ensures derives { IfOk result (λ t. Derives end spots.now t) }
-    ensures only { (t : Text) → Derives end spots.now t → IsExact t result }
-    ensures place { IsPlaced end spots.now result }
-    ensures reads { (t : Text) → Derives end spots.now t → WithinLimits 200 4_096 spots.now → IsRead t result }
-    ensures limits { IsLimited 200 4_096 end spots.now result }
-    ensures says { Says end spots.now result (whole_text end 200 4_095 spots.now) }
+    requires { length spots.now ≤ BYTES }
+    ensures answer { Explains error.Memory result (λ t. Derives end spots.now t) (IsPlaced end spots.now) }
+    ensures only { (t : Text) → Derives end spots.now t → Explains error.Memory result (λ u. u ≡ t) PassesLimit }
+    ensures reads { (t : Text) → Derives end spots.now t → WithinLimits NESTING RULES spots.now → Gives error.Memory result (λ u. u ≡ t) }
+    ensures limits { Explains error.Memory result (λ _. WithinLimits NESTING RULES spots.now) (IsLimited NESTING RULES end spots.now) }
+    ensures says { Says end spots.now result (whole_text end NESTING (RULES - 1) spots.now) }
 {
     answer(alloc, spots, end)
 }
 
 /// What the grammar of functions reads, with the places of faults.
 fn answer(alloc: Global, spots: &[Spot], end: Place) -> Result<Text, ParseErr>
-    requires { length spots.now ≤ 1_048_576 }
-    ensures { Says end spots.now result (whole_text end 200 4_095 spots.now) }
+    requires { length spots.now ≤ BYTES }
+    ensures { Says end spots.now result (whole_text end NESTING (RULES - 1) spots.now) }
 {
-    match whole(alloc, spots, end, NESTING, FURTHER_RULES) {
+    match whole(alloc, spots, end, LEVELS, FURTHER_RULES) {
         Ok(text) => Ok(text),
         Err(stop) => Err(placed(stop, spots, end)),
     }
 }
 
-const NESTING: u32 = limits::NESTING as u32;
+/// Brackets that may be open at once.
+const LEVELS: u32 = limits::NESTING as u32;
 
 /// Rules of a relation after its first.
 const FURTHER_RULES: u32 = limits::RULES as u32 - 1;

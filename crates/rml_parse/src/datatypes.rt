@@ -6,7 +6,7 @@ ghost use Rattle.rml_syntax.specs.declared.token.Mark.TheVariants as mark;
 ghost use Rattle.rml_grammar.specs.Reading.{repeated};
 ghost use Rattle.rml_grammar.specs.Tokens.{after, after_word};
 ghost use Rattle.rml_grammar.specs.Texts as grammar;
-ghost use Rattle.rml_parse.specs.Gives.{Gives};
+ghost use Rattle.rml_parse.specs.Mirrors.{Mirrors};
 
 use crate::lists::{alone, joined};
 use crate::spots::{eat, eat_word, front, name};
@@ -19,7 +19,7 @@ use std::alloc::Global;
 
 /// `data {and data}`, behind a `datatype`.
 pub(crate) fn datas(alloc: Global, spots: &[Spot], levels: u32) -> Result<(Decl, &[Spot]), Stop>
-    ensures gives { Gives (λ x. (x.0, x.1.now)) result (grammar.datas_at levels spots.now) }
+    ensures mirrors { Mirrors (λ x. (x.0, x.1.now)) result (grammar.datas_at levels spots.now) }
     ensures shorter { IfOk result (λ x. length x.1.now < length spots.now) }
 {
     let (first, rest) = datatype(alloc, spots, levels)?;
@@ -33,7 +33,7 @@ fn more_datas(
     spots: &[Spot],
     levels: u32,
 ) -> Result<(Items<DataBind>, &[Spot]), Stop>
-    ensures gives { Gives (λ x. (x.0, x.1.now)) result (repeated (after_word key.KAnd) (grammar.data_at levels) spots.now) }
+    ensures mirrors { Mirrors (λ x. (x.0, x.1.now)) result (repeated (after_word key.KAnd) (grammar.data_at levels) spots.now) }
     ensures shorter { IfOk result (λ x. length x.1.now ≤ length spots.now) }
 {
     let mut items = Items::new(alloc);
@@ -48,7 +48,7 @@ fn more_datas(
 
 /// `thead = con {| con}`
 fn datatype(alloc: Global, spots: &[Spot], levels: u32) -> Result<(DataBind, &[Spot]), Stop>
-    ensures gives { Gives (λ x. (x.0, x.1.now)) result (grammar.data_at levels spots.now) }
+    ensures mirrors { Mirrors (λ x. (x.0, x.1.now)) result (grammar.data_at levels spots.now) }
     ensures shorter { IfOk result (λ x. length x.1.now < length spots.now) }
 {
     let (head, rest) = type_head(alloc, spots)?;
@@ -67,7 +67,7 @@ fn more_constructors(
     spots: &[Spot],
     levels: u32,
 ) -> Result<(Items<ConBind>, &[Spot]), Stop>
-    ensures gives { Gives (λ x. (x.0, x.1.now)) result (repeated (after mark.Bar) (grammar.con_at levels) spots.now) }
+    ensures mirrors { Mirrors (λ x. (x.0, x.1.now)) result (repeated (after mark.Bar) (grammar.con_at levels) spots.now) }
     ensures shorter { IfOk result (λ x. length x.1.now ≤ length spots.now) }
 {
     let mut items = Items::new(alloc);
@@ -82,7 +82,7 @@ fn more_constructors(
 
 /// `name [of tatom {* tatom}]`
 fn constructor(alloc: Global, spots: &[Spot], levels: u32) -> Result<(ConBind, &[Spot]), Stop>
-    ensures gives { Gives (λ x. (x.0, x.1.now)) result (grammar.con_at levels spots.now) }
+    ensures mirrors { Mirrors (λ x. (x.0, x.1.now)) result (grammar.con_at levels spots.now) }
     ensures shorter { IfOk result (λ x. length x.1.now < length spots.now) }
 {
     let ((name, place), rest) = name(spots)?;
@@ -92,7 +92,7 @@ fn constructor(alloc: Global, spots: &[Spot], levels: u32) -> Result<(ConBind, &
 
 /// `[of tatom {* tatom}]`
 fn parts(alloc: Global, spots: &[Spot], levels: u32) -> Result<(Items<TypeExp>, &[Spot]), Stop>
-    ensures gives { Gives (λ x. (x.0, x.1.now)) result (grammar.parts_by levels spots.now (after_word key.KOf spots.now)) }
+    ensures mirrors { Mirrors (λ x. (x.0, x.1.now)) result (grammar.parts_by levels spots.now (after_word key.KOf spots.now)) }
     ensures shorter { IfOk result (λ x. length x.1.now ≤ length spots.now) }
 {
     let Some(rest) = eat_word(spots, Key::KOf) else {
@@ -105,7 +105,7 @@ fn parts(alloc: Global, spots: &[Spot], levels: u32) -> Result<(Items<TypeExp>, 
 
 /// The name that a declaration of types declares, and the type variables before it.
 pub(crate) fn type_head(alloc: Global, spots: &[Spot]) -> Result<(TypeHead, &[Spot]), Stop>
-    ensures gives { Gives (λ x. (x.0, x.1.now)) result (grammar.thead_at spots.now) }
+    ensures mirrors { Mirrors (λ x. (x.0, x.1.now)) result (grammar.thead_at spots.now) }
     ensures shorter { IfOk result (λ x. length x.1.now < length spots.now) }
 {
     let (first, rest) = front(spots);
@@ -120,7 +120,7 @@ pub(crate) fn type_head(alloc: Global, spots: &[Spot]) -> Result<(TypeHead, &[Sp
 }
 
 fn head_with(vars: Items<u32>, spots: &[Spot]) -> Result<(TypeHead, &[Spot]), Stop>
-    ensures gives { Gives (λ x. (x.0, x.1.now)) result (grammar.thead_from vars spots.now) }
+    ensures mirrors { Mirrors (λ x. (x.0, x.1.now)) result (grammar.thead_from vars spots.now) }
     ensures shorter { IfOk result (λ x. length x.1.now < length spots.now) }
 {
     let ((name, place), rest) = name(spots)?;
@@ -129,7 +129,7 @@ fn head_with(vars: Items<u32>, spots: &[Spot]) -> Result<(TypeHead, &[Spot]), St
 
 /// `tyvar , tyvar {, tyvar} )`
 fn type_vars(alloc: Global, spots: &[Spot]) -> Result<(Items<u32>, &[Spot]), Stop>
-    ensures gives { Gives (λ x. (x.0, x.1.now)) result (grammar.tyvars_at spots.now) }
+    ensures mirrors { Mirrors (λ x. (x.0, x.1.now)) result (grammar.tyvars_at spots.now) }
     ensures shorter { IfOk result (λ x. length x.1.now ≤ length spots.now) }
 {
     let (first, rest) = type_var(spots)?;
@@ -147,7 +147,7 @@ fn type_vars(alloc: Global, spots: &[Spot]) -> Result<(Items<u32>, &[Spot]), Sto
 
 /// `{, tyvar}`
 fn more_type_vars(alloc: Global, spots: &[Spot]) -> Result<(Items<u32>, &[Spot]), Stop>
-    ensures gives { Gives (λ x. (x.0, x.1.now)) result (repeated (after mark.Comma) grammar.tyvar_at spots.now) }
+    ensures mirrors { Mirrors (λ x. (x.0, x.1.now)) result (repeated (after mark.Comma) grammar.tyvar_at spots.now) }
     ensures shorter { IfOk result (λ x. length x.1.now ≤ length spots.now) }
 {
     let mut items = Items::new(alloc);
@@ -161,7 +161,7 @@ fn more_type_vars(alloc: Global, spots: &[Spot]) -> Result<(Items<u32>, &[Spot])
 }
 
 fn type_var(spots: &[Spot]) -> Result<(u32, &[Spot]), Stop>
-    ensures gives { Gives (λ x. (x.0, x.1.now)) result (grammar.tyvar_at spots.now) }
+    ensures mirrors { Mirrors (λ x. (x.0, x.1.now)) result (grammar.tyvar_at spots.now) }
     ensures shorter { IfOk result (λ x. length x.1.now ≤ length spots.now) }
 {
     if let (Front::TyVar(var, _), rest) = front(spots) {

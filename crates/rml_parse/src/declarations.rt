@@ -2,11 +2,12 @@
 
 ghost use Rattle.std.specs.Prelude.{◌≡◌, ◌<◌, ◌≤◌, IfOk, length};
 ghost use Rattle.rml_syntax.specs.declared.token.Mark.TheVariants as mark;
+ghost use Rattle.rml_base.specs.declared.limits.TheConstants.{BYTES};
 ghost use Rattle.rml_grammar.specs.Reading.{repeated};
 ghost use Rattle.rml_grammar.specs.Tokens.{after};
 ghost use Rattle.rml_grammar.specs.Types.{sig_at, type_at};
 ghost use Rattle.rml_grammar.specs.Texts as grammar;
-ghost use Rattle.rml_parse.specs.Gives.{Gives};
+ghost use Rattle.rml_parse.specs.Mirrors.{Mirrors};
 
 use crate::datatypes::{datas, type_head};
 use crate::expressions::exp;
@@ -25,7 +26,7 @@ pub(crate) fn specs(
     spots: &[Spot],
     levels: u32,
 ) -> Result<(Items<Decl>, &[Spot]), Stop>
-    ensures gives { Gives (λ x. (x.0, x.1.now)) result (repeated grammar.spec_next (grammar.spec_at levels) spots.now) }
+    ensures mirrors { Mirrors (λ x. (x.0, x.1.now)) result (repeated grammar.spec_next (grammar.spec_at levels) spots.now) }
     ensures shorter { IfOk result (λ x. length x.1.now ≤ length spots.now) }
 {
     let mut items = Items::new(alloc);
@@ -45,8 +46,8 @@ pub(crate) fn decls(
     levels: u32,
     further: u32,
 ) -> Result<(Items<Decl>, &[Spot]), Stop>
-    requires { length spots.now ≤ 1_048_576 }
-    ensures gives { Gives (λ x. (x.0, x.1.now)) result (repeated grammar.decl_next (grammar.decl_at levels further) spots.now) }
+    requires { length spots.now ≤ BYTES }
+    ensures mirrors { Mirrors (λ x. (x.0, x.1.now)) result (repeated grammar.decl_next (grammar.decl_at levels further) spots.now) }
     ensures shorter { IfOk result (λ x. length x.1.now ≤ length spots.now) }
 {
     let mut items = Items::new(alloc);
@@ -61,7 +62,7 @@ pub(crate) fn decls(
 
 /// A declaration of an interface.
 fn spec(alloc: Global, spots: &[Spot], levels: u32) -> Result<(Decl, &[Spot]), Stop>
-    ensures gives { Gives (λ x. (x.0, x.1.now)) result (grammar.spec_at levels spots.now) }
+    ensures mirrors { Mirrors (λ x. (x.0, x.1.now)) result (grammar.spec_at levels spots.now) }
     ensures shorter { IfOk result (λ x. length x.1.now < length spots.now) }
 {
     let (first, rest) = opening(spots);
@@ -77,8 +78,8 @@ fn spec(alloc: Global, spots: &[Spot], levels: u32) -> Result<(Decl, &[Spot]), S
 
 /// A declaration of a body, whose relations have at most so many rules after the first.
 fn decl(alloc: Global, spots: &[Spot], levels: u32, further: u32) -> Result<(Decl, &[Spot]), Stop>
-    requires { length spots.now ≤ 1_048_576 }
-    ensures gives { Gives (λ x. (x.0, x.1.now)) result (grammar.decl_at levels further spots.now) }
+    requires { length spots.now ≤ BYTES }
+    ensures mirrors { Mirrors (λ x. (x.0, x.1.now)) result (grammar.decl_at levels further spots.now) }
     ensures shorter { IfOk result (λ x. length x.1.now < length spots.now) }
 {
     let (first, rest) = opening(spots);
@@ -93,7 +94,7 @@ fn decl(alloc: Global, spots: &[Spot], levels: u32, further: u32) -> Result<(Dec
 
 /// `thead = type`, behind a `type`.
 fn abbrev(alloc: Global, spots: &[Spot], levels: u32) -> Result<(Decl, &[Spot]), Stop>
-    ensures gives { Gives (λ x. (x.0, x.1.now)) result (grammar.abbrev_at levels spots.now) }
+    ensures mirrors { Mirrors (λ x. (x.0, x.1.now)) result (grammar.abbrev_at levels spots.now) }
     ensures shorter { IfOk result (λ x. length x.1.now < length spots.now) }
 {
     let (head, rest) = type_head(alloc, spots)?;
@@ -106,7 +107,7 @@ fn abbrev(alloc: Global, spots: &[Spot], levels: u32) -> Result<(Decl, &[Spot]),
 
 /// `thead`, behind an `abstype`.
 fn abstype(alloc: Global, spots: &[Spot]) -> Result<(Decl, &[Spot]), Stop>
-    ensures gives { Gives (λ x. (x.0, x.1.now)) result (grammar.abstype_at spots.now) }
+    ensures mirrors { Mirrors (λ x. (x.0, x.1.now)) result (grammar.abstype_at spots.now) }
     ensures shorter { IfOk result (λ x. length x.1.now < length spots.now) }
 {
     let (head, rest) = type_head(alloc, spots)?;
@@ -115,7 +116,7 @@ fn abstype(alloc: Global, spots: &[Spot]) -> Result<(Decl, &[Spot]), Stop>
 
 /// `name : type`, behind a `val`.
 fn val_spec(alloc: Global, spots: &[Spot], levels: u32) -> Result<(Decl, &[Spot]), Stop>
-    ensures gives { Gives (λ x. (x.0, x.1.now)) result (grammar.val_spec_at levels spots.now) }
+    ensures mirrors { Mirrors (λ x. (x.0, x.1.now)) result (grammar.val_spec_at levels spots.now) }
     ensures shorter { IfOk result (λ x. length x.1.now < length spots.now) }
 {
     let ((name, place), rest) = name(spots)?;
@@ -128,7 +129,7 @@ fn val_spec(alloc: Global, spots: &[Spot], levels: u32) -> Result<(Decl, &[Spot]
 
 /// `name : sig`, behind a `relation`.
 fn relation_spec(alloc: Global, spots: &[Spot], levels: u32) -> Result<(Decl, &[Spot]), Stop>
-    ensures gives { Gives (λ x. (x.0, x.1.now)) result (grammar.relation_spec_at levels spots.now) }
+    ensures mirrors { Mirrors (λ x. (x.0, x.1.now)) result (grammar.relation_spec_at levels spots.now) }
     ensures shorter { IfOk result (λ x. length x.1.now < length spots.now) }
 {
     let ((name, place), rest) = name(spots)?;
@@ -144,7 +145,7 @@ fn relation_spec(alloc: Global, spots: &[Spot], levels: u32) -> Result<(Decl, &[
 
 /// `name [: type] = exp`, behind a `val`.
 fn val(alloc: Global, spots: &[Spot], levels: u32) -> Result<(Decl, &[Spot]), Stop>
-    ensures gives { Gives (λ x. (x.0, x.1.now)) result (grammar.val_at levels spots.now) }
+    ensures mirrors { Mirrors (λ x. (x.0, x.1.now)) result (grammar.val_at levels spots.now) }
     ensures shorter { IfOk result (λ x. length x.1.now < length spots.now) }
 {
     let ((name, place), rest) = name(spots)?;
@@ -163,8 +164,8 @@ fn relation(
     levels: u32,
     further: u32,
 ) -> Result<(Decl, &[Spot]), Stop>
-    requires { length spots.now ≤ 1_048_576 }
-    ensures gives { Gives (λ x. (x.0, x.1.now)) result (grammar.relation_at levels further spots.now) }
+    requires { length spots.now ≤ BYTES }
+    ensures mirrors { Mirrors (λ x. (x.0, x.1.now)) result (grammar.relation_at levels further spots.now) }
     ensures shorter { IfOk result (λ x. length x.1.now < length spots.now) }
 {
     let ((name, place), rest) = name(spots)?;
@@ -182,7 +183,7 @@ fn optional_type(
     spots: &[Spot],
     levels: u32,
 ) -> Result<(Option<TypeExp>, &[Spot]), Stop>
-    ensures gives { Gives (λ x. (x.0, x.1.now)) result (grammar.optional_by (type_at levels) spots.now (after mark.Colon spots.now)) }
+    ensures mirrors { Mirrors (λ x. (x.0, x.1.now)) result (grammar.optional_by (type_at levels) spots.now (after mark.Colon spots.now)) }
     ensures shorter { IfOk result (λ x. length x.1.now ≤ length spots.now) }
 {
     let Some(rest) = eat(spots, Mark::Colon) else {
@@ -194,7 +195,7 @@ fn optional_type(
 
 /// `[: sig]`
 fn optional_sig(alloc: Global, spots: &[Spot], levels: u32) -> Result<(Option<Sig>, &[Spot]), Stop>
-    ensures gives { Gives (λ x. (x.0, x.1.now)) result (grammar.optional_by (sig_at levels) spots.now (after mark.Colon spots.now)) }
+    ensures mirrors { Mirrors (λ x. (x.0, x.1.now)) result (grammar.optional_by (sig_at levels) spots.now (after mark.Colon spots.now)) }
     ensures shorter { IfOk result (λ x. length x.1.now ≤ length spots.now) }
 {
     let Some(rest) = eat(spots, Mark::Colon) else {

@@ -6,7 +6,7 @@ ghost use Rattle.rml_grammar.specs.Tokens.{after};
 ghost use Rattle.rml_grammar.specs.Trees.{applied_exp, tuple_exp, chain_exp, results_exp, listed};
 ghost use Rattle.rml_grammar.specs.Reading.{enclosed, enclosed_or_none, repeated};
 ghost use Rattle.rml_grammar.specs.Expressions.{exp_at, eapp_at, eatom_at, eapps_at, eargument_at, eargs_at, eseq_at, eseq_inside};
-ghost use Rattle.rml_parse.specs.Gives.{Gives};
+ghost use Rattle.rml_parse.specs.Mirrors.{Mirrors};
 
 use crate::lists::{alone, joined};
 use crate::spots::{eat, front, long};
@@ -24,7 +24,7 @@ fn exps(
     close: Mark,
     levels: u32,
 ) -> Result<(Items<Exp>, &[Spot]), Stop>
-    ensures gives { Gives (λ x. (x.0, x.1.now)) result (enclosed close (exp_at levels) spots.now) }
+    ensures mirrors { Mirrors (λ x. (x.0, x.1.now)) result (enclosed close (exp_at levels) spots.now) }
     ensures shorter { IfOk result (λ x. length x.1.now ≤ length spots.now) }
 {
     let (first, rest) = exp(alloc, spots, levels)?;
@@ -38,7 +38,7 @@ fn exps(
 /// `{, exp}`
 #[cycle(expressions)]
 fn more_exps(alloc: Global, spots: &[Spot], levels: u32) -> Result<(Items<Exp>, &[Spot]), Stop>
-    ensures gives { Gives (λ x. (x.0, x.1.now)) result (repeated (after mark.Comma) (exp_at levels) spots.now) }
+    ensures mirrors { Mirrors (λ x. (x.0, x.1.now)) result (repeated (after mark.Comma) (exp_at levels) spots.now) }
     ensures shorter { IfOk result (λ x. length x.1.now ≤ length spots.now) }
 {
     let mut items = Items::new(alloc);
@@ -59,7 +59,7 @@ fn exps_or_none(
     close: Mark,
     levels: u32,
 ) -> Result<(Items<Exp>, &[Spot]), Stop>
-    ensures gives { Gives (λ x. (x.0, x.1.now)) result (enclosed_or_none close (exp_at levels) spots.now) }
+    ensures mirrors { Mirrors (λ x. (x.0, x.1.now)) result (enclosed_or_none close (exp_at levels) spots.now) }
     ensures shorter { IfOk result (λ x. length x.1.now ≤ length spots.now) }
 {
     if let Some(rest) = eat(spots, close) {
@@ -72,7 +72,7 @@ fn exps_or_none(
 #[cycle(expressions)]
 #[tactic(auto, using(rml_grammar::proofs::Levels::exp_level))]
 pub(crate) fn exp(alloc: Global, spots: &[Spot], levels: u32) -> Result<(Exp, &[Spot]), Stop>
-    ensures gives { Gives (λ x. (x.0, x.1.now)) result (exp_at levels spots.now) }
+    ensures mirrors { Mirrors (λ x. (x.0, x.1.now)) result (exp_at levels spots.now) }
     ensures shorter { IfOk result (λ x. length x.1.now ≤ length spots.now) }
 {
     let (first, rest) = application(alloc, spots, levels)?;
@@ -83,7 +83,7 @@ pub(crate) fn exp(alloc: Global, spots: &[Spot], levels: u32) -> Result<(Exp, &[
 /// `{:: eapp}`
 #[cycle(expressions)]
 fn tails(alloc: Global, spots: &[Spot], levels: u32) -> Result<(Items<Exp>, &[Spot]), Stop>
-    ensures gives { Gives (λ x. (x.0, x.1.now)) result (eapps_at levels spots.now) }
+    ensures mirrors { Mirrors (λ x. (x.0, x.1.now)) result (eapps_at levels spots.now) }
     ensures shorter { IfOk result (λ x. length x.1.now ≤ length spots.now) }
 {
     let mut items = Items::new(alloc);
@@ -99,7 +99,7 @@ fn tails(alloc: Global, spots: &[Spot], levels: u32) -> Result<(Items<Exp>, &[Sp
 /// An item of a chain.
 #[cycle(expressions)]
 fn application(alloc: Global, spots: &[Spot], levels: u32) -> Result<(Exp, &[Spot]), Stop>
-    ensures gives { Gives (λ x. (x.0, x.1.now)) result (eapp_at levels spots.now) }
+    ensures mirrors { Mirrors (λ x. (x.0, x.1.now)) result (eapp_at levels spots.now) }
     ensures shorter { IfOk result (λ x. length x.1.now ≤ length spots.now) }
 {
     if let (Front::Named, _) = front(spots) {
@@ -113,7 +113,7 @@ fn application(alloc: Global, spots: &[Spot], levels: u32) -> Result<(Exp, &[Spo
 /// What stands as one expression without a name before it.
 #[cycle(expressions)]
 fn atom(alloc: Global, spots: &[Spot], levels: u32) -> Result<(Exp, &[Spot]), Stop>
-    ensures gives { Gives (λ x. (x.0, x.1.now)) result (eatom_at levels spots.now) }
+    ensures mirrors { Mirrors (λ x. (x.0, x.1.now)) result (eatom_at levels spots.now) }
     ensures shorter { IfOk result (λ x. length x.1.now ≤ length spots.now) }
 {
     let (first, rest) = front(spots);
@@ -140,7 +140,7 @@ fn argument(
     spots: &[Spot],
     levels: u32,
 ) -> Result<(Option<Items<Exp>>, &[Spot]), Stop>
-    ensures gives { Gives (λ x. (x.0, x.1.now)) result (eargument_at levels spots.now) }
+    ensures mirrors { Mirrors (λ x. (x.0, x.1.now)) result (eargument_at levels spots.now) }
     ensures shorter { IfOk result (λ x. length x.1.now ≤ length spots.now) }
 {
     let (first, rest) = front(spots);
@@ -168,7 +168,7 @@ pub(crate) fn arguments(
     spots: &[Spot],
     levels: u32,
 ) -> Result<(Items<Exp>, &[Spot]), Stop>
-    ensures gives { Gives (λ x. (x.0, x.1.now)) result (eargs_at levels spots.now) }
+    ensures mirrors { Mirrors (λ x. (x.0, x.1.now)) result (eargs_at levels spots.now) }
     ensures shorter { IfOk result (λ x. length x.1.now ≤ length spots.now) }
 {
     if let (Front::Round, rest) = front(spots) {
@@ -185,7 +185,7 @@ pub(crate) fn results(
     spots: &[Spot],
     levels: u32,
 ) -> Result<(Items<Exp>, &[Spot]), Stop>
-    ensures gives { Gives (λ x. (x.0, x.1.now)) result (eseq_at levels spots.now) }
+    ensures mirrors { Mirrors (λ x. (x.0, x.1.now)) result (eseq_at levels spots.now) }
     ensures shorter { IfOk result (λ x. length x.1.now ≤ length spots.now) }
 {
     if let (Front::Round, rest) = front(spots) {
@@ -203,7 +203,7 @@ fn bracketed_results(
     levels: u32,
     inner: u32,
 ) -> Result<(Items<Exp>, &[Spot]), Stop>
-    ensures gives { Gives (λ x. (x.0, x.1.now)) result (eseq_inside levels (exp_at inner) spots.now) }
+    ensures mirrors { Mirrors (λ x. (x.0, x.1.now)) result (eseq_inside levels (exp_at inner) spots.now) }
     ensures shorter { IfOk result (λ x. length x.1.now ≤ length spots.now) }
 {
     if let Some(rest) = eat(spots, Mark::CloseRound) {

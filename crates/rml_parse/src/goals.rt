@@ -5,7 +5,7 @@ ghost use Rattle.rml_syntax.specs.declared.token.Mark.TheVariants as mark;
 ghost use Rattle.rml_grammar.specs.Tokens.{after};
 ghost use Rattle.rml_grammar.specs.Reading.{repeated};
 ghost use Rattle.rml_grammar.specs.Goals as grammar;
-ghost use Rattle.rml_parse.specs.Gives.{Gives};
+ghost use Rattle.rml_parse.specs.Mirrors.{Mirrors};
 
 use crate::expressions::{arguments, exp};
 use crate::lists::joined;
@@ -25,7 +25,7 @@ pub(crate) fn goals(
     spots: &[Spot],
     levels: u32,
 ) -> Result<(Items<Goal>, &[Spot]), Stop>
-    ensures gives { Gives (λ x. (x.0, x.1.now)) result (grammar.goals_at levels spots.now) }
+    ensures mirrors { Mirrors (λ x. (x.0, x.1.now)) result (grammar.goals_at levels spots.now) }
     ensures shorter { IfOk result (λ x. length x.1.now ≤ length spots.now) }
 {
     let (first, rest) = goal(alloc, spots, levels)?;
@@ -36,7 +36,7 @@ pub(crate) fn goals(
 /// `{& goal}`
 #[cycle(goals)]
 fn more_goals(alloc: Global, spots: &[Spot], levels: u32) -> Result<(Items<Goal>, &[Spot]), Stop>
-    ensures gives { Gives (λ x. (x.0, x.1.now)) result (repeated (after mark.Amp) (grammar.goal_at levels) spots.now) }
+    ensures mirrors { Mirrors (λ x. (x.0, x.1.now)) result (repeated (after mark.Amp) (grammar.goal_at levels) spots.now) }
     ensures shorter { IfOk result (λ x. length x.1.now ≤ length spots.now) }
 {
     let mut items = Items::new(alloc);
@@ -51,7 +51,7 @@ fn more_goals(alloc: Global, spots: &[Spot], levels: u32) -> Result<(Items<Goal>
 
 #[cycle(goals)]
 fn goal(alloc: Global, spots: &[Spot], levels: u32) -> Result<(Goal, &[Spot]), Stop>
-    ensures gives { Gives (λ x. (x.0, x.1.now)) result (grammar.goal_at levels spots.now) }
+    ensures mirrors { Mirrors (λ x. (x.0, x.1.now)) result (grammar.goal_at levels spots.now) }
     ensures shorter { IfOk result (λ x. length x.1.now ≤ length spots.now) }
 {
     if let (Front::Not, rest) = front(spots) {
@@ -64,7 +64,7 @@ fn goal(alloc: Global, spots: &[Spot], levels: u32) -> Result<(Goal, &[Spot]), S
 /// A goal that is not negated.
 #[cycle(goals)]
 fn atom(alloc: Global, spots: &[Spot], levels: u32) -> Result<(Goal, &[Spot]), Stop>
-    ensures gives { Gives (λ x. (x.0, x.1.now)) result (grammar.gatom_at levels spots.now) }
+    ensures mirrors { Mirrors (λ x. (x.0, x.1.now)) result (grammar.gatom_at levels spots.now) }
     ensures shorter { IfOk result (λ x. length x.1.now ≤ length spots.now) }
 {
     let (first, rest) = front(spots);
@@ -88,7 +88,7 @@ fn atom(alloc: Global, spots: &[Spot], levels: u32) -> Result<(Goal, &[Spot]), S
 
 /// `pat = exp`, behind a `let`.
 fn matching(alloc: Global, spots: &[Spot], levels: u32) -> Result<(Goal, &[Spot]), Stop>
-    ensures gives { Gives (λ x. (x.0, x.1.now)) result (grammar.matching_at levels spots.now) }
+    ensures mirrors { Mirrors (λ x. (x.0, x.1.now)) result (grammar.matching_at levels spots.now) }
     ensures shorter { IfOk result (λ x. length x.1.now ≤ length spots.now) }
 {
     let (left, rest) = pattern(alloc, spots, levels)?;
@@ -101,7 +101,7 @@ fn matching(alloc: Global, spots: &[Spot], levels: u32) -> Result<(Goal, &[Spot]
 
 /// What a name begins: an equation, or a call.
 fn named(alloc: Global, name: Long, spots: &[Spot], levels: u32) -> Result<(Goal, &[Spot]), Stop>
-    ensures gives { Gives (λ x. (x.0, x.1.now)) result (grammar.long_goal_by levels name spots.now (after mark.Equals spots.now)) }
+    ensures mirrors { Mirrors (λ x. (x.0, x.1.now)) result (grammar.long_goal_by levels name spots.now (after mark.Equals spots.now)) }
     ensures shorter { IfOk result (λ x. length x.1.now ≤ length spots.now) }
 {
     if let Some(rest) = eat(spots, Mark::Equals) {
@@ -119,7 +119,7 @@ fn call_results(
     spots: &[Spot],
     levels: u32,
 ) -> Result<(Items<Pattern>, &[Spot]), Stop>
-    ensures gives { Gives (λ x. (x.0, x.1.now)) result (grammar.call_results_at levels spots.now) }
+    ensures mirrors { Mirrors (λ x. (x.0, x.1.now)) result (grammar.call_results_at levels spots.now) }
     ensures shorter { IfOk result (λ x. length x.1.now ≤ length spots.now) }
 {
     let Some(rest) = eat(spots, Mark::Arrow) else {

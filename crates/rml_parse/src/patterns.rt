@@ -6,7 +6,7 @@ ghost use Rattle.rml_grammar.specs.Tokens.{after};
 ghost use Rattle.rml_grammar.specs.Trees.{applied_pat, tuple_pat, chain_pat, results_pat, listed};
 ghost use Rattle.rml_grammar.specs.Reading.{enclosed, enclosed_or_none, repeated};
 ghost use Rattle.rml_grammar.specs.Patterns.{pat_at, pcons_at, papp_at, patom_at, papps_at, pargument_at, pargs_at, pseq_at, pseq_inside};
-ghost use Rattle.rml_parse.specs.Gives.{Gives};
+ghost use Rattle.rml_parse.specs.Mirrors.{Mirrors};
 
 use crate::lists::{alone, joined};
 use crate::spots::{binder, eat, front, long};
@@ -24,7 +24,7 @@ fn pats(
     close: Mark,
     levels: u32,
 ) -> Result<(Items<Pattern>, &[Spot]), Stop>
-    ensures gives { Gives (λ x. (x.0, x.1.now)) result (enclosed close (pat_at levels) spots.now) }
+    ensures mirrors { Mirrors (λ x. (x.0, x.1.now)) result (enclosed close (pat_at levels) spots.now) }
     ensures shorter { IfOk result (λ x. length x.1.now ≤ length spots.now) }
 {
     let (first, rest) = pattern(alloc, spots, levels)?;
@@ -38,7 +38,7 @@ fn pats(
 /// `{, pat}`
 #[cycle(patterns)]
 fn more_pats(alloc: Global, spots: &[Spot], levels: u32) -> Result<(Items<Pattern>, &[Spot]), Stop>
-    ensures gives { Gives (λ x. (x.0, x.1.now)) result (repeated (after mark.Comma) (pat_at levels) spots.now) }
+    ensures mirrors { Mirrors (λ x. (x.0, x.1.now)) result (repeated (after mark.Comma) (pat_at levels) spots.now) }
     ensures shorter { IfOk result (λ x. length x.1.now ≤ length spots.now) }
 {
     let mut items = Items::new(alloc);
@@ -59,7 +59,7 @@ fn pats_or_none(
     close: Mark,
     levels: u32,
 ) -> Result<(Items<Pattern>, &[Spot]), Stop>
-    ensures gives { Gives (λ x. (x.0, x.1.now)) result (enclosed_or_none close (pat_at levels) spots.now) }
+    ensures mirrors { Mirrors (λ x. (x.0, x.1.now)) result (enclosed_or_none close (pat_at levels) spots.now) }
     ensures shorter { IfOk result (λ x. length x.1.now ≤ length spots.now) }
 {
     if let Some(rest) = eat(spots, close) {
@@ -76,7 +76,7 @@ pub(crate) fn pattern(
     spots: &[Spot],
     levels: u32,
 ) -> Result<(Pattern, &[Spot]), Stop>
-    ensures gives { Gives (λ x. (x.0, x.1.now)) result (pat_at levels spots.now) }
+    ensures mirrors { Mirrors (λ x. (x.0, x.1.now)) result (pat_at levels spots.now) }
     ensures shorter { IfOk result (λ x. length x.1.now ≤ length spots.now) }
 {
     let Some(((name, place), rest)) = binder(spots) else {
@@ -89,7 +89,7 @@ pub(crate) fn pattern(
 /// `papp {:: papp}`
 #[cycle(patterns)]
 fn chain(alloc: Global, spots: &[Spot], levels: u32) -> Result<(Pattern, &[Spot]), Stop>
-    ensures gives { Gives (λ x. (x.0, x.1.now)) result (pcons_at levels spots.now) }
+    ensures mirrors { Mirrors (λ x. (x.0, x.1.now)) result (pcons_at levels spots.now) }
     ensures shorter { IfOk result (λ x. length x.1.now ≤ length spots.now) }
 {
     let (first, rest) = application(alloc, spots, levels)?;
@@ -100,7 +100,7 @@ fn chain(alloc: Global, spots: &[Spot], levels: u32) -> Result<(Pattern, &[Spot]
 /// `{:: papp}`
 #[cycle(patterns)]
 fn tails(alloc: Global, spots: &[Spot], levels: u32) -> Result<(Items<Pattern>, &[Spot]), Stop>
-    ensures gives { Gives (λ x. (x.0, x.1.now)) result (papps_at levels spots.now) }
+    ensures mirrors { Mirrors (λ x. (x.0, x.1.now)) result (papps_at levels spots.now) }
     ensures shorter { IfOk result (λ x. length x.1.now ≤ length spots.now) }
 {
     let mut items = Items::new(alloc);
@@ -116,7 +116,7 @@ fn tails(alloc: Global, spots: &[Spot], levels: u32) -> Result<(Items<Pattern>, 
 /// An item of a chain.
 #[cycle(patterns)]
 fn application(alloc: Global, spots: &[Spot], levels: u32) -> Result<(Pattern, &[Spot]), Stop>
-    ensures gives { Gives (λ x. (x.0, x.1.now)) result (papp_at levels spots.now) }
+    ensures mirrors { Mirrors (λ x. (x.0, x.1.now)) result (papp_at levels spots.now) }
     ensures shorter { IfOk result (λ x. length x.1.now ≤ length spots.now) }
 {
     if let (Front::Named, _) = front(spots) {
@@ -130,7 +130,7 @@ fn application(alloc: Global, spots: &[Spot], levels: u32) -> Result<(Pattern, &
 /// What stands as one pattern without a name before it.
 #[cycle(patterns)]
 fn atom(alloc: Global, spots: &[Spot], levels: u32) -> Result<(Pattern, &[Spot]), Stop>
-    ensures gives { Gives (λ x. (x.0, x.1.now)) result (patom_at levels spots.now) }
+    ensures mirrors { Mirrors (λ x. (x.0, x.1.now)) result (patom_at levels spots.now) }
     ensures shorter { IfOk result (λ x. length x.1.now ≤ length spots.now) }
 {
     let (first, rest) = front(spots);
@@ -158,7 +158,7 @@ fn argument(
     spots: &[Spot],
     levels: u32,
 ) -> Result<(Option<Items<Pattern>>, &[Spot]), Stop>
-    ensures gives { Gives (λ x. (x.0, x.1.now)) result (pargument_at levels spots.now) }
+    ensures mirrors { Mirrors (λ x. (x.0, x.1.now)) result (pargument_at levels spots.now) }
     ensures shorter { IfOk result (λ x. length x.1.now ≤ length spots.now) }
 {
     let (first, rest) = front(spots);
@@ -186,7 +186,7 @@ pub(crate) fn arguments(
     spots: &[Spot],
     levels: u32,
 ) -> Result<(Items<Pattern>, &[Spot]), Stop>
-    ensures gives { Gives (λ x. (x.0, x.1.now)) result (pargs_at levels spots.now) }
+    ensures mirrors { Mirrors (λ x. (x.0, x.1.now)) result (pargs_at levels spots.now) }
     ensures shorter { IfOk result (λ x. length x.1.now ≤ length spots.now) }
 {
     if let (Front::Round, rest) = front(spots) {
@@ -203,7 +203,7 @@ pub(crate) fn results(
     spots: &[Spot],
     levels: u32,
 ) -> Result<(Items<Pattern>, &[Spot]), Stop>
-    ensures gives { Gives (λ x. (x.0, x.1.now)) result (pseq_at levels spots.now) }
+    ensures mirrors { Mirrors (λ x. (x.0, x.1.now)) result (pseq_at levels spots.now) }
     ensures shorter { IfOk result (λ x. length x.1.now ≤ length spots.now) }
 {
     if let (Front::Round, rest) = front(spots) {
@@ -221,7 +221,7 @@ fn bracketed_results(
     levels: u32,
     inner: u32,
 ) -> Result<(Items<Pattern>, &[Spot]), Stop>
-    ensures gives { Gives (λ x. (x.0, x.1.now)) result (pseq_inside levels (pat_at inner) spots.now) }
+    ensures mirrors { Mirrors (λ x. (x.0, x.1.now)) result (pseq_inside levels (pat_at inner) spots.now) }
     ensures shorter { IfOk result (λ x. length x.1.now ≤ length spots.now) }
 {
     if let Some(rest) = eat(spots, Mark::CloseRound) {

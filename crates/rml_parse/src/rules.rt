@@ -1,8 +1,9 @@
 //! Rules: `axiom` and `rule`, and the rules of a relation.
 
 ghost use Rattle.std.specs.Prelude.{◌≡◌, ◌<◌, ◌≤◌, ◌-◌, IfOk, length};
+ghost use Rattle.rml_base.specs.declared.limits.TheConstants.{BYTES};
 ghost use Rattle.rml_grammar.specs.Texts as grammar;
-ghost use Rattle.rml_parse.specs.Gives.{Gives};
+ghost use Rattle.rml_parse.specs.Mirrors.{Mirrors};
 
 use crate::expressions::results;
 use crate::goals::goals;
@@ -32,8 +33,8 @@ pub(crate) fn rules(
     levels: u32,
     further: u32,
 ) -> Result<(Items<Rule>, &[Spot]), Stop>
-    requires { length spots.now ≤ 1_048_576 }
-    ensures gives { Gives (λ x. (x.0, x.1.now)) result (grammar.rules_at levels further spots.now) }
+    requires { length spots.now ≤ BYTES }
+    ensures mirrors { Mirrors (λ x. (x.0, x.1.now)) result (grammar.rules_at levels further spots.now) }
     ensures shorter { IfOk result (λ x. length x.1.now ≤ length spots.now) }
 {
     let (first, rest) = rule(alloc, spots, levels)?;
@@ -51,8 +52,8 @@ fn more_rules(
     levels: u32,
     most: u32,
 ) -> Result<(Items<Rule>, &[Spot]), Stop>
-    requires { length spots.now ≤ 1_048_576 }
-    ensures gives { Gives (λ x. (x.0, x.1.now)) result (grammar.clauses_at levels most spots.now) }
+    requires { length spots.now ≤ BYTES }
+    ensures mirrors { Mirrors (λ x. (x.0, x.1.now)) result (grammar.clauses_at levels most spots.now) }
     ensures shorter { IfOk result (λ x. length x.1.now ≤ length spots.now) }
 {
     let mut items = Items::new(alloc);
@@ -72,8 +73,8 @@ fn more_rules(
 
 /// `axiom head` or `rule [goals] dashes head`
 fn rule(alloc: Global, spots: &[Spot], levels: u32) -> Result<(Rule, &[Spot]), Stop>
-    requires { length spots.now ≤ 1_048_576 }
-    ensures gives { Gives (λ x. (x.0, x.1.now)) result (grammar.clause_at levels spots.now) }
+    requires { length spots.now ≤ BYTES }
+    ensures mirrors { Mirrors (λ x. (x.0, x.1.now)) result (grammar.clause_at levels spots.now) }
     ensures shorter { IfOk result (λ x. length x.1.now < length spots.now) }
 {
     let (first, rest) = opening(spots);
@@ -95,7 +96,7 @@ fn rule(alloc: Global, spots: &[Spot], levels: u32) -> Result<(Rule, &[Spot]), S
 
 /// `[goals] dashes`
 fn premises(alloc: Global, spots: &[Spot], levels: u32) -> Result<(Items<Goal>, &[Spot]), Stop>
-    ensures gives { Gives (λ x. (x.0, x.1.now)) result (grammar.premises_at levels spots.now) }
+    ensures mirrors { Mirrors (λ x. (x.0, x.1.now)) result (grammar.premises_at levels spots.now) }
     ensures shorter { IfOk result (λ x. length x.1.now ≤ length spots.now) }
 {
     if let (Front::Dashes, rest) = front(spots) {
@@ -110,7 +111,7 @@ fn premises(alloc: Global, spots: &[Spot], levels: u32) -> Result<(Items<Goal>, 
 
 /// `name [pargs] [=> eseq]`
 fn rule_head(alloc: Global, spots: &[Spot], levels: u32) -> Result<(Head, &[Spot]), Stop>
-    ensures gives { Gives (λ x. (((x.0.name, x.0.place), x.0.inputs, x.0.results), x.1.now)) result (grammar.head_at levels spots.now) }
+    ensures mirrors { Mirrors (λ x. (((x.0.name, x.0.place), x.0.inputs, x.0.results), x.1.now)) result (grammar.head_at levels spots.now) }
     ensures shorter { IfOk result (λ x. length x.1.now < length spots.now) }
 {
     let ((name, place), rest) = name(spots)?;
@@ -127,7 +128,7 @@ fn rule_head(alloc: Global, spots: &[Spot], levels: u32) -> Result<(Head, &[Spot
 
 /// The results of a rule, where absent ones are none.
 fn rule_results(alloc: Global, spots: &[Spot], levels: u32) -> Result<(Items<Exp>, &[Spot]), Stop>
-    ensures gives { Gives (λ x. (x.0, x.1.now)) result (grammar.rule_results_at levels spots.now) }
+    ensures mirrors { Mirrors (λ x. (x.0, x.1.now)) result (grammar.rule_results_at levels spots.now) }
     ensures shorter { IfOk result (λ x. length x.1.now ≤ length spots.now) }
 {
     let Some(rest) = eat(spots, Mark::Arrow) else {
@@ -153,7 +154,7 @@ fn rule_from(place: Place, goals: Items<Goal>, head: Head, tokens: u32) -> Rule
 /// How many of the spots stand before the rest.
 fn taken(spots: &[Spot], rest: &[Spot]) -> u32
     requires within { length rest.now ≤ length spots.now }
-    requires few { length spots.now ≤ 1_048_576 }
+    requires few { length spots.now ≤ BYTES }
     ensures { result ≡ length spots.now - length rest.now }
 {
     (spots.len() - rest.len()) as u32

@@ -8,7 +8,7 @@ ghost use Rattle.rml_grammar.specs.Patterns.{binder_at};
 ghost use Rattle.rml_grammar.specs.Types.{name_next};
 ghost use Rattle.rml_grammar.specs.Texts as texts;
 ghost use Rattle.rml_syntax.specs.declared.token.Token.TheVariants as token;
-ghost use Rattle.rml_parse.specs.Gives.{Gives};
+ghost use Rattle.rml_parse.specs.Mirrors.{Mirrors};
 
 use crate::stop::{Stop, unexpected};
 use rml_base::Place;
@@ -110,7 +110,7 @@ pub(crate) fn eat_word(spots: &[Spot], word: Key) -> Option<&[Spot]>
 
 /// A name, and its place.
 pub(crate) fn name(spots: &[Spot]) -> Result<((u32, Place), &[Spot]), Stop>
-    ensures gives { Gives (λ x. (x.0, x.1.now)) result (name_at spots.now) }
+    ensures mirrors { Mirrors (λ x. (x.0, x.1.now)) result (name_at spots.now) }
     ensures shorter { IfOk result (λ x. length x.1.now < length spots.now) }
 {
     let Some((first, rest)) = spots.split_first() else {
@@ -125,7 +125,7 @@ pub(crate) fn name(spots: &[Spot]) -> Result<((u32, Place), &[Spot]), Stop>
 /// `name [. name]`
 #[tactic(auto, unfolding(rml_grammar::specs::Reading::long_at))]
 pub(crate) fn long(spots: &[Spot]) -> Result<(Long, &[Spot]), Stop>
-    ensures gives { Gives (λ x. (x.0, x.1.now)) result (long_at spots.now) }
+    ensures mirrors { Mirrors (λ x. (x.0, x.1.now)) result (long_at spots.now) }
     ensures shorter { IfOk result (λ x. length x.1.now < length spots.now) }
 {
     let ((first, place), rest) = name(spots)?;
@@ -217,7 +217,7 @@ pub(crate) fn at_rule(spots: &[Spot]) -> Option<&[Spot]>
 
 /// The text literal of a `with`.
 pub(crate) fn file(spots: &[Spot]) -> Result<(u32, &[Spot]), Stop>
-    ensures gives { Gives (λ x. (x.0, x.1.now)) result (texts.file_at spots.now) }
+    ensures mirrors { Mirrors (λ x. (x.0, x.1.now)) result (texts.file_at spots.now) }
     ensures shorter { IfOk result (λ x. length x.1.now < length spots.now) }
 {
     let Some((first, rest)) = spots.split_first() else {

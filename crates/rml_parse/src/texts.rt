@@ -1,9 +1,10 @@
 //! Whole texts: an interface and a body.
 
 ghost use Rattle.std.specs.Prelude.{◌≡◌, ◌<◌, ◌≤◌, IfOk, length};
+ghost use Rattle.rml_base.specs.declared.limits.TheConstants.{BYTES};
 ghost use Rattle.rml_grammar.specs.Reading.{repeated};
 ghost use Rattle.rml_grammar.specs.Texts as grammar;
-ghost use Rattle.rml_parse.specs.Gives.{Gives};
+ghost use Rattle.rml_parse.specs.Mirrors.{Mirrors};
 
 use crate::declarations::{decls, specs};
 use crate::spots::{at_uses, eat, eat_word, file, name, opening};
@@ -30,8 +31,8 @@ pub(crate) fn whole(
     levels: u32,
     further: u32,
 ) -> Result<Text, Stop>
-    requires { length spots.now ≤ 1_048_576 }
-    ensures { Gives (λ t. t) result (grammar.whole_text end levels further spots.now) }
+    requires { length spots.now ≤ BYTES }
+    ensures { Mirrors (λ t. t) result (grammar.whole_text end levels further spots.now) }
 {
     let ((module, place), rest) = heading(spots)?;
     let (interface, rest) = interface(alloc, rest, levels)?;
@@ -52,7 +53,7 @@ pub(crate) fn whole(
 
 /// `module name :`
 fn heading(spots: &[Spot]) -> Result<((u32, Place), &[Spot]), Stop>
-    ensures gives { Gives (λ x. (x.0, x.1.now)) result (grammar.module_at spots.now) }
+    ensures mirrors { Mirrors (λ x. (x.0, x.1.now)) result (grammar.module_at spots.now) }
     ensures shorter { IfOk result (λ x. length x.1.now ≤ length spots.now) }
 {
     let Some(rest) = eat_word(spots, Key::KModule) else {
@@ -67,7 +68,7 @@ fn heading(spots: &[Spot]) -> Result<((u32, Place), &[Spot]), Stop>
 
 /// `{uses} {spec} end`
 fn interface(alloc: Global, spots: &[Spot], levels: u32) -> Result<(Part, &[Spot]), Stop>
-    ensures gives { Gives (λ x. ((x.0.uses, x.0.decls), x.1.now)) result (grammar.interface_at levels spots.now) }
+    ensures mirrors { Mirrors (λ x. ((x.0.uses, x.0.decls), x.1.now)) result (grammar.interface_at levels spots.now) }
     ensures shorter { IfOk result (λ x. length x.1.now ≤ length spots.now) }
 {
     let (uses, rest) = uses(alloc, spots)?;
@@ -80,8 +81,8 @@ fn interface(alloc: Global, spots: &[Spot], levels: u32) -> Result<(Part, &[Spot
 
 /// `{uses} {decl}`
 fn body(alloc: Global, spots: &[Spot], levels: u32, further: u32) -> Result<(Part, &[Spot]), Stop>
-    requires { length spots.now ≤ 1_048_576 }
-    ensures gives { Gives (λ x. ((x.0.uses, x.0.decls), x.1.now)) result (grammar.body_at levels further spots.now) }
+    requires { length spots.now ≤ BYTES }
+    ensures mirrors { Mirrors (λ x. ((x.0.uses, x.0.decls), x.1.now)) result (grammar.body_at levels further spots.now) }
     ensures shorter { IfOk result (λ x. length x.1.now ≤ length spots.now) }
 {
     let (uses, rest) = uses(alloc, spots)?;
@@ -91,7 +92,7 @@ fn body(alloc: Global, spots: &[Spot], levels: u32, further: u32) -> Result<(Par
 
 /// `{uses}`
 fn uses(alloc: Global, spots: &[Spot]) -> Result<(Items<Uses>, &[Spot]), Stop>
-    ensures gives { Gives (λ x. (x.0, x.1.now)) result (repeated grammar.uses_next grammar.uses_at spots.now) }
+    ensures mirrors { Mirrors (λ x. (x.0, x.1.now)) result (repeated grammar.uses_next grammar.uses_at spots.now) }
     ensures shorter { IfOk result (λ x. length x.1.now ≤ length spots.now) }
 {
     let mut items = Items::new(alloc);
@@ -106,7 +107,7 @@ fn uses(alloc: Global, spots: &[Spot]) -> Result<(Items<Uses>, &[Spot]), Stop>
 
 /// `with text-literal`
 fn one_use(spots: &[Spot]) -> Result<(Uses, &[Spot]), Stop>
-    ensures gives { Gives (λ x. (x.0, x.1.now)) result (grammar.uses_at spots.now) }
+    ensures mirrors { Mirrors (λ x. (x.0, x.1.now)) result (grammar.uses_at spots.now) }
     ensures shorter { IfOk result (λ x. length x.1.now < length spots.now) }
 {
     if let (Opening::With(place), rest) = opening(spots) {

@@ -8,7 +8,7 @@ ghost use Rattle.rml_grammar.specs.Tokens.{after};
 ghost use Rattle.rml_grammar.specs.Trees.{named_type, product_type};
 ghost use Rattle.rml_grammar.specs.Reading.{repeated};
 ghost use Rattle.rml_grammar.specs.Types as grammar;
-ghost use Rattle.rml_parse.specs.Gives.{Gives};
+ghost use Rattle.rml_parse.specs.Mirrors.{Mirrors};
 
 use crate::lists::{alone, joined};
 use crate::spots::{at_name, eat, front, long};
@@ -20,7 +20,7 @@ use std::alloc::{AllocError, Global};
 
 /// `tseq => tseq`
 pub(crate) fn sig(alloc: Global, spots: &[Spot], levels: u32) -> Result<(Sig, &[Spot]), Stop>
-    ensures gives { Gives (λ x. (x.0, x.1.now)) result (grammar.sig_at levels spots.now) }
+    ensures mirrors { Mirrors (λ x. (x.0, x.1.now)) result (grammar.sig_at levels spots.now) }
     ensures shorter { IfOk result (λ x. length x.1.now ≤ length spots.now) }
 {
     let (inputs, rest) = types(alloc, spots, levels)?;
@@ -35,7 +35,7 @@ pub(crate) fn sig(alloc: Global, spots: &[Spot], levels: u32) -> Result<(Sig, &[
 #[cycle(types)]
 #[tactic(auto, using(rml_grammar::proofs::Levels::bracket_level))]
 fn bracket(alloc: Global, spots: &[Spot], levels: u32) -> Result<(Bracket, &[Spot]), Stop>
-    ensures gives { Gives (λ x. (x.0, x.1.now)) result (grammar.bracket_at levels spots.now) }
+    ensures mirrors { Mirrors (λ x. (x.0, x.1.now)) result (grammar.bracket_at levels spots.now) }
     ensures shorter { IfOk result (λ x. length x.1.now ≤ length spots.now) }
 {
     let (first, rest) = types(alloc, spots, levels)?;
@@ -58,7 +58,7 @@ fn bracket_from(
     spots: &[Spot],
     levels: u32,
 ) -> Result<(Bracket, &[Spot]), Stop>
-    ensures gives { Gives (λ x. (x.0, x.1.now)) result (grammar.bracket_from (grammar.inner_bracket levels) first spots.now) }
+    ensures mirrors { Mirrors (λ x. (x.0, x.1.now)) result (grammar.bracket_from (grammar.inner_bracket levels) first spots.now) }
     ensures shorter { IfOk result (λ x. length x.1.now ≤ length spots.now) }
 {
     let Types::One(first) = first else {
@@ -74,7 +74,7 @@ fn bracket_from(
 /// The inputs or the outputs of a signature. A tuple that stands bare is as many of them.
 #[cycle(types)]
 fn types(alloc: Global, spots: &[Spot], levels: u32) -> Result<(Types, &[Spot]), Stop>
-    ensures gives { Gives (λ x. (x.0, x.1.now)) result (grammar.tseq_at levels spots.now) }
+    ensures mirrors { Mirrors (λ x. (x.0, x.1.now)) result (grammar.tseq_at levels spots.now) }
     ensures shorter { IfOk result (λ x. length x.1.now ≤ length spots.now) }
 {
     if let (Front::Round, rest) = front(spots) {
@@ -99,7 +99,7 @@ fn types_from(
     spots: &[Spot],
     levels: u32,
 ) -> Result<(Types, &[Spot]), Stop>
-    ensures gives { Gives (λ x. (x.0, x.1.now)) result (grammar.tseq_from (grammar.inner_bracket levels) spots.now found names) }
+    ensures mirrors { Mirrors (λ x. (x.0, x.1.now)) result (grammar.tseq_from (grammar.inner_bracket levels) spots.now found names) }
     ensures shorter { IfOk result (λ x. length x.1.now ≤ length spots.now) }
 {
     match found {
@@ -125,7 +125,7 @@ fn one_from(
     spots: &[Spot],
     levels: u32,
 ) -> Result<(Types, &[Spot]), Stop>
-    ensures gives { Gives (λ x. (x.0, x.1.now)) result (grammar.one_from (grammar.inner_bracket levels) (first, spots.now)) }
+    ensures mirrors { Mirrors (λ x. (x.0, x.1.now)) result (grammar.one_from (grammar.inner_bracket levels) (first, spots.now)) }
     ensures shorter { IfOk result (λ x. length x.1.now ≤ length spots.now) }
 {
     let (more, rest) = more_factors(alloc, spots, levels)?;
@@ -139,7 +139,7 @@ pub(crate) fn type_exp(
     spots: &[Spot],
     levels: u32,
 ) -> Result<(TypeExp, &[Spot]), Stop>
-    ensures gives { Gives (λ x. (x.0, x.1.now)) result (grammar.type_at levels spots.now) }
+    ensures mirrors { Mirrors (λ x. (x.0, x.1.now)) result (grammar.type_at levels spots.now) }
     ensures shorter { IfOk result (λ x. length x.1.now ≤ length spots.now) }
 {
     let (first, rest) = factor(alloc, spots, levels)?;
@@ -150,7 +150,7 @@ pub(crate) fn type_exp(
 /// `{, type}`
 #[cycle(types)]
 fn more_types(alloc: Global, spots: &[Spot], levels: u32) -> Result<(Items<TypeExp>, &[Spot]), Stop>
-    ensures gives { Gives (λ x. (x.0, x.1.now)) result (repeated (after mark.Comma) (grammar.type_at levels) spots.now) }
+    ensures mirrors { Mirrors (λ x. (x.0, x.1.now)) result (repeated (after mark.Comma) (grammar.type_at levels) spots.now) }
     ensures shorter { IfOk result (λ x. length x.1.now ≤ length spots.now) }
 {
     let mut items = Items::new(alloc);
@@ -170,7 +170,7 @@ pub(crate) fn more_factors(
     spots: &[Spot],
     levels: u32,
 ) -> Result<(Items<TypeExp>, &[Spot]), Stop>
-    ensures gives { Gives (λ x. (x.0, x.1.now)) result (repeated (after mark.Star) (grammar.tatom_at levels) spots.now) }
+    ensures mirrors { Mirrors (λ x. (x.0, x.1.now)) result (repeated (after mark.Star) (grammar.tatom_at levels) spots.now) }
     ensures shorter { IfOk result (λ x. length x.1.now ≤ length spots.now) }
 {
     let mut items = Items::new(alloc);
@@ -186,7 +186,7 @@ pub(crate) fn more_factors(
 /// A factor of a tuple type.
 #[cycle(types)]
 pub(crate) fn factor(alloc: Global, spots: &[Spot], levels: u32) -> Result<(TypeExp, &[Spot]), Stop>
-    ensures gives { Gives (λ x. (x.0, x.1.now)) result (grammar.tatom_at levels spots.now) }
+    ensures mirrors { Mirrors (λ x. (x.0, x.1.now)) result (grammar.tatom_at levels spots.now) }
     ensures shorter { IfOk result (λ x. length x.1.now ≤ length spots.now) }
 {
     let (first, rest) = front(spots);
@@ -213,7 +213,7 @@ pub(crate) fn factor(alloc: Global, spots: &[Spot], levels: u32) -> Result<(Type
 
 /// `{long}`
 fn longs(alloc: Global, spots: &[Spot]) -> Result<(Items<Long>, &[Spot]), Stop>
-    ensures gives { Gives (λ x. (x.0, x.1.now)) result (grammar.longs_at spots.now) }
+    ensures mirrors { Mirrors (λ x. (x.0, x.1.now)) result (grammar.longs_at spots.now) }
     ensures shorter { IfOk result (λ x. length x.1.now ≤ length spots.now) }
 {
     let mut items = Items::new(alloc);
@@ -233,7 +233,7 @@ fn type_from(
     names: Items<Long>,
     spots: &[Spot],
 ) -> Result<TypeExp, Stop>
-    ensures { Gives (λ t. (t, spots.now)) result (grammar.bracket_type spots.now found names) }
+    ensures { Mirrors (λ t. (t, spots.now)) result (grammar.bracket_type spots.now found names) }
 {
     match found {
         Bracket::Types(types) => type_from_list(alloc, types, names, spots),
@@ -248,7 +248,7 @@ fn type_from_list(
     names: Items<Long>,
     spots: &[Spot],
 ) -> Result<TypeExp, Stop>
-    ensures { Gives (λ t. (t, spots.now)) result (grammar.bracket_type spots.now (bracket.Types types) names) }
+    ensures { Mirrors (λ t. (t, spots.now)) result (grammar.bracket_type spots.now (bracket.Types types) names) }
 {
     if types.len() == 1
         && let Some(only) = types.pop()

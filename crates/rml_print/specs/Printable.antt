@@ -1,5 +1,6 @@
 -- Which tokens can stand in a printed line, and what it is that printed bytes are read as the tokens that were printed.
 use Rattle.std.specs.Prelude.{◌≡◌, ℕ, ◌<◌, ◌≤◌, Bool, true, false, List, [], ◌∷◌, length, map, All}
+use Rattle.rml_base.specs.declared.limits.TheConstants.{LITERAL}
 use Rattle.rml_syntax.specs.declared.token.Lit.{Lit}
 use Rattle.rml_syntax.specs.declared.token.Lit.TheVariants as lit
 use Rattle.rml_syntax.specs.declared.token.Mark.TheVariants as mark
@@ -16,7 +17,7 @@ use Rattle.rml_print.specs.Spelling.{name_bytes}
 abbrev pub IsPrintableLiteral : List (List ℕ) → Lit → Type 0
 IsPrintableLiteral names (lit.Int i) = (is_negative : Bool) × (n : ℕ) × (n ≤ limit is_negative) × (i ≡ int_value is_negative n)
 IsPrintableLiteral names (lit.Char b) = b < 256
-IsPrintableLiteral names (lit.Text n) = All (λ b. b < 256) (name_bytes names n) × (length (name_bytes names n) ≤ 65535)
+IsPrintableLiteral names (lit.Text n) = All (λ b. b < 256) (name_bytes names n) × (length (name_bytes names n) ≤ LITERAL)
 
 -- A token that has a spelling: the bytes of its number, if it has one, are those of a name, a type variable or a text.
 abbrev pub IsPrintable : List (List ℕ) → Token → Type 0

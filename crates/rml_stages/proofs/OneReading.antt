@@ -1,5 +1,6 @@
 -- A text is read as one tree, or has one refusal, and not both.
-use Rattle.std.proofs.Common.{◌≡◌, ℕ, List, refl, sym, ap, subst, ◌∙◌, lit<, inl, inr, Result, Ok, Err, ◌⊎◌}
+use Rattle.std.proofs.Common.{◌≡◌, ℕ, ◌-◌, List, refl, sym, ap, subst, ◌∙◌, lit<, inl, inr, Result, Ok, Err, ◌⊎◌}
+use Rattle.rml_base.specs.declared.limits.TheConstants.{NESTING, RULES}
 use Rattle.rml_base.specs.declared.place.Place.{Place}
 use Rattle.rml_syntax.specs.declared.token.Spot.{Spot}
 use Rattle.rml_syntax.specs.declared.texts.Text.{Text}
@@ -32,8 +33,8 @@ module _ (number : ℕ) (bytes : List ℕ) (old : List (List ℕ)) where
       (spots, names)
 
   -- where the tokens derive a tree within the limits, reading them does not stop
-  no-stop-at : (end : Place) (us : List Spot) (t : Text) (p : Place) (k : ParseKind) → Derives end us t → WithinLimits 200 4096 us → StopsAt end us p k → ⊥
-  no-stop-at end us t p k d w s = let ok = within-read end 200 4095 us t (lit< tt) w d in let err = s.reading in absurd (cc (ok, err))
+  no-stop-at : (end : Place) (us : List Spot) (t : Text) (p : Place) (k : ParseKind) → Derives end us t → WithinLimits NESTING RULES us → StopsAt end us p k → ⊥
+  no-stop-at end us t p k d w s = let ok = within-read end NESTING (RULES - 1) us t (lit< tt) w d in let err = s.reading in absurd (cc (ok, err))
 
   pub one-text : (t u : Text) (a b : List (List ℕ)) → IsRead number bytes old t a → IsRead number bytes old u b → (t ≡ u) × (a ≡ b)
   one-text t u a b (s, h) (v, k) =
@@ -69,9 +70,9 @@ module _ (number : ℕ) (bytes : List ℕ) (old : List (List ℕ)) where
   Either : Type 0
   Either = ((t : Text) × (new : List (List ℕ)) × IsRead number bytes old t new) ⊎ ((r : Refusal) × IsRefused number bytes old r)
 
-  by-tokens : (spots : List Spot) (new : List (List ℕ)) → IsSpelledAs number bytes old spots new → (r : Result Text Fault) → whole_text (end_of number bytes) 200 4095 spots ≡ r → Either
+  by-tokens : (spots : List Spot) (new : List (List ℕ)) → IsSpelledAs number bytes old spots new → (r : Result Text Fault) → whole_text (end_of number bytes) NESTING (RULES - 1) spots ≡ r → Either
   unfolding Either
-  by-tokens spots new sp (Ok t) e = inl (t, new, (spots, record { spelled = sp; derived = sound (end_of number bytes) 200 4095 spots t e; within = text-within (end_of number bytes) 200 4095 spots t (lit< tt) e }))
+  by-tokens spots new sp (Ok t) e = inl (t, new, (spots, record { spelled = sp; derived = sound (end_of number bytes) NESTING (RULES - 1) spots t e; within = text-within (end_of number bytes) NESTING (RULES - 1) spots t (lit< tt) e }))
   by-tokens spots new sp (Err f) e =
       let p : Place = place_left (end_of number bytes) f.left spots in
       inr (underived p f.kind, is_underived spots new p f.kind sp (stops-at (end_of number bytes) spots f p f.kind e refl refl) refl)
@@ -80,7 +81,7 @@ module _ (number : ℕ) (bytes : List ℕ) (old : List (List ℕ)) where
   unfolding Either
   by-bytes (inl (shown, s)) =
       let new : List (List ℕ) = with_names old (names_in shown) in
-      by-tokens (spots_in new shown) new (record { shown = shown; spelled = s; numbered = record { names = refl; tokens = refl } }) (whole_text (end_of number bytes) 200 4095 (spots_in new shown)) refl
+      by-tokens (spots_in new shown) new (record { shown = shown; spelled = s; numbered = record { names = refl; tokens = refl } }) (whole_text (end_of number bytes) NESTING (RULES - 1) (spots_in new shown)) refl
   by-bytes (inr (p, k, f)) = inr (misspelled p k, is_misspelled p k f refl)
 
   pub each-text : ((t : Text) × (new : List (List ℕ)) × IsRead number bytes old t new) ⊎ ((r : Refusal) × IsRefused number bytes old r)

@@ -5,21 +5,22 @@ use Rattle.std.proofs.Math.ListN.{length-append}
 use Rattle.std.proofs.lemmas.List.{length-map, length-take, map-append, take-append-drop}
 use Rattle.std.specs.Prelude.{All}
 use Rattle.rml_base.specs.Numbering.{GrowsBy}
+use Rattle.rml_base.specs.declared.limits.TheConstants.{BYTES}
 use Rattle.rml_syntax.specs.declared.texts.Text.{Text}
 use Rattle.rml_stages.specs.declared.refusal.Refusal.{Refusal}
 use Rattle.rml_stages.specs.declared.source.Source.{Source}
-use Rattle.rml_stages.specs.Answers.{contents}
+use Rattle.rml_stages.specs.Sources.{contents}
 use Rattle.rml_stages.specs.Reading.{AreRead, IsFirstRefusal, IsRead, IsRefused}
 use Rattle.rml_stages.proofs.OneReadingOfAll.{read-more}
 
 -- the names that one text more may bring
-pub names-more : (i n more : ℕ) (old mid new : List (List ℕ)) → GrowsBy (1048576 * i) old mid → GrowsBy more mid new → more ≤ 1048576 → i < n → GrowsBy (1048576 * n) old new
+pub names-more : (i n more : ℕ) (old mid new : List (List ℕ)) → GrowsBy (BYTES * i) old mid → GrowsBy more mid new → more ≤ BYTES → i < n → GrowsBy (BYTES * n) old new
 names-more i n more old mid new g h le lt =
     (g.0 ++ h.0, h.1 ∙ ap (λ ns. ns ++ h.0) g.1 ∙ append_assoc old g.0 h.0, omega (arith, length-append g.0 h.0, g.2, h.2, le, lt))
 
 module _ (sources : List Source) (i : ℕ) (s : Source) (within : i < length sources) (is : s ≡ get_or sources i s) where
-  pub small : All (λ x. length x.bytes ≤ 1048576) sources → length s.bytes ≤ 1048576
-  small h = subst (λ (x : Source). length x.bytes ≤ 1048576) (sym is) (h i s within)
+  pub small : All (λ x. length x.bytes ≤ BYTES) sources → length s.bytes ≤ BYTES
+  small h = subst (λ (x : Source). length x.bytes ≤ BYTES) (sym is) (h i s within)
 
   front : contents (take (i + 1) sources) ≡ contents (take i sources) ++ s.bytes ∷ []
   front =

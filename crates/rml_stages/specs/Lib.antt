@@ -1,4 +1,4 @@
 pub mod Refusals
 pub mod Reading
-pub mod Answers
+pub mod Sources
 pub mod Shown

@@ -1,6 +1,7 @@
 -- What texts are read as, and why they are refused. A text is its bytes. It has a number, for its places, and is read over the
 -- names that were known before it.
-use Rattle.std.specs.Prelude.{◌≡◌, ℕ, suc, ◌+◌, List, [], ◌∷◌, ◌++◌, length, Err}
+use Rattle.std.specs.Prelude.{◌≡◌, ℕ, suc, ◌+◌, ◌-◌, List, [], ◌∷◌, ◌++◌, length, Err}
+use Rattle.rml_base.specs.declared.limits.TheConstants.{NESTING, RULES}
 use Rattle.rml_base.specs.declared.place.Place.{Place}
 use Rattle.rml_syntax.specs.declared.token.Spot.{Spot}
 use Rattle.rml_syntax.specs.declared.texts.Text.{Text}
@@ -27,12 +28,11 @@ pub record IsSpelledAs (number : ℕ) (bytes : List ℕ) (old : List (List ℕ))
   pub spelled : Spelled number bytes shown
   pub numbered : IsNumbered old shown spots new
 
--- the bytes spell these tokens, the tree derives from them, and no bracket opens among them where 200 are open and no rule begins
--- where its relation has 4,096
+-- the bytes spell these tokens, the tree derives from them, and no bracket and no rule among them is one too many
 pub record IsReadAs (number : ℕ) (bytes : List ℕ) (old : List (List ℕ)) (spots : List Spot) (tree : Text) (new : List (List ℕ)) : Type 0 where
   pub spelled : IsSpelledAs number bytes old spots new
   pub derived : Derives (end_of number bytes) spots tree
-  pub within : WithinLimits 200 4096 spots
+  pub within : WithinLimits NESTING RULES spots
 
 abbrev pub IsRead : ℕ → List ℕ → List (List ℕ) → Text → List (List ℕ) → Type 0
 IsRead number bytes old tree new = (spots : List Spot) × IsReadAs number bytes old spots tree new
@@ -41,9 +41,9 @@ IsRead number bytes old tree new = (spots : List Spot) × IsReadAs number bytes 
 -- fault that names a limit is the first that is; and an unexpected token is one such that no text begins with those up to it.
 pub record StopsAt (end : Place) (spots : List Spot) (place : Place) (kind : ParseKind) : Type 0 where
   pub left : ℕ
-  pub reading : whole_text end 200 4095 spots ≡ Err (record { kind = kind; left = left })
+  pub reading : whole_text end NESTING (RULES - 1) spots ≡ Err (record { kind = kind; left = left })
   pub place_is : place ≡ place_left end left spots
-  pub limits : StandsAt 200 4096 spots (record { kind = kind; left = left })
+  pub limits : StandsAt NESTING RULES spots (record { kind = kind; left = left })
   pub unexpected : kind ≡ syntactic.Unexpected → IsUnexpectedAt end spots place left
 
 -- the bytes have a first lexical fault; or they spell tokens, and reading these stops

@@ -1,9 +1,12 @@
 //! Texts, and the first refusal among them.
 
+ghost use Rattle.rml_base.specs.Answers.{Explains, Gives, Refuses};
 ghost use Rattle.rml_base.specs.Numbering.{GrowsBy};
-ghost use Rattle.rml_stages.specs.Answers.{Gives, HasCause, Refuses, contents};
+ghost use Rattle.rml_base.specs.declared.limits.TheConstants.{BYTES, TEXTS};
+ghost use Rattle.rml_stages.specs.Sources.{contents};
 ghost use Rattle.rml_stages.specs.Reading.{AreRead, IsFirstRefusal, IsRead, IsReadAs, IsRefused};
 ghost use Rattle.rml_stages.specs.declared.refusal.Refusal.{Refusal};
+ghost use Rattle.rml_stages.specs.declared.refusal.Refusal.TheVariants as refusal;
 ghost use Rattle.rml_syntax.specs.declared.texts.Text.{Text};
 ghost use Rattle.std.specs.Prelude.{◌≡◌, ℕ, ◌*◌, ◌≤◌, ◌^◌, All, List, length};
 
@@ -25,11 +28,11 @@ pub fn read_text(
     bytes: &[u8],
     names: &mut Names,
 ) -> Result<Text, Refusal>
-    requires size { length bytes.now ≤ 1_048_576 }
+    requires size { length bytes.now ≤ BYTES }
     requires room { length names.old ≤ 2 ^ 31 }
-    ensures answer { HasCause result (λ t. IsRead number bytes.now names.old t names.new) (IsRefused number bytes.now names.old) }
-    ensures reads { (t : Text) (new : List (List ℕ)) → IsRead number bytes.now names.old t new → Gives result (λ u. (u ≡ t) × (names.new ≡ new)) }
-    ensures refuses { (r : Refusal) → IsRefused number bytes.now names.old r → Refuses result r }
+    ensures answer { Explains refusal.Memory result (λ t. IsRead number bytes.now names.old t names.new) (IsRefused number bytes.now names.old) }
+    ensures reads { (t : Text) (new : List (List ℕ)) → IsRead number bytes.now names.old t new → Gives refusal.Memory result (λ u. (u ≡ t) × (names.new ≡ new)) }
+    ensures refuses { (r : Refusal) → IsRefused number bytes.now names.old r → Refuses refusal.Memory result (λ q. q ≡ r) }
     ensures names { GrowsBy (length bytes.now) names.old names.new }
 {
     let (_, text) = read(alloc, number, bytes, names)?;
@@ -43,9 +46,9 @@ pub fn read(
     bytes: &[u8],
     names: &mut Names,
 ) -> Result<(Vec<Spot>, Text), Refusal>
-    requires size { length bytes.now ≤ 1_048_576 }
+    requires size { length bytes.now ≤ BYTES }
     requires room { length names.old ≤ 2 ^ 31 }
-    ensures answer { HasCause result (λ v. IsReadAs number bytes.now names.old v.0.items v.1 names.new) (IsRefused number bytes.now names.old) }
+    ensures answer { Explains refusal.Memory result (λ v. IsReadAs number bytes.now names.old v.0.items v.1 names.new) (IsRefused number bytes.now names.old) }
     ensures names { GrowsBy (length bytes.now) names.old names.new }
 {
     let spots = lex(alloc, number, bytes, names)?;
@@ -56,30 +59,30 @@ pub fn read(
 /// The trees of texts, which are numbered from 0, or the first refusal: that of the first text that is refused. The names
 /// of all texts are numbered together, in their order.
 ///
-/// After a refusal `names` may have grown, by at most 1,048,576 names a text; old numbers stand.
+/// After a refusal `names` may have grown, by at most so many names as a text may have bytes, for each text; old numbers stand.
 pub fn read_texts(
     alloc: Global,
     sources: &[Source],
     names: &mut Names,
 ) -> Result<Vec<Text>, Refusal>
-    requires count { length sources.now ≤ 64 }
-    requires size { All (λ s. length s.bytes ≤ 1_048_576) sources.now }
+    requires count { length sources.now ≤ TEXTS }
+    requires size { All (λ s. length s.bytes ≤ BYTES) sources.now }
     requires room { length names.old ≤ 2 ^ 30 }
-    ensures answer { HasCause result (λ v. AreRead 0 (contents sources.now) names.old v.items names.new) (IsFirstRefusal 0 (contents sources.now) names.old) }
-    ensures reads { (trees : List Text) (new : List (List ℕ)) → AreRead 0 (contents sources.now) names.old trees new → Gives result (λ v. (v.items ≡ trees) × (names.new ≡ new)) }
-    ensures refuses { (r : Refusal) → IsFirstRefusal 0 (contents sources.now) names.old r → Refuses result r }
-    ensures names { GrowsBy (1_048_576 * length sources.now) names.old names.new }
+    ensures answer { Explains refusal.Memory result (λ v. AreRead 0 (contents sources.now) names.old v.items names.new) (IsFirstRefusal 0 (contents sources.now) names.old) }
+    ensures reads { (trees : List Text) (new : List (List ℕ)) → AreRead 0 (contents sources.now) names.old trees new → Gives refusal.Memory result (λ v. (v.items ≡ trees) × (names.new ≡ new)) }
+    ensures refuses { (r : Refusal) → IsFirstRefusal 0 (contents sources.now) names.old r → Refuses refusal.Memory result (λ q. q ≡ r) }
+    ensures names { GrowsBy (BYTES * length sources.now) names.old names.new }
 {
     read_all(alloc, sources, names)
 }
 
 /// The same, text by text.
 fn read_all(alloc: Global, sources: &[Source], names: &mut Names) -> Result<Vec<Text>, Refusal>
-    requires count { length sources.now ≤ 64 }
-    requires size { All (λ s. length s.bytes ≤ 1_048_576) sources.now }
+    requires count { length sources.now ≤ TEXTS }
+    requires size { All (λ s. length s.bytes ≤ BYTES) sources.now }
     requires room { length names.old ≤ 2 ^ 30 }
-    ensures answer { HasCause result (λ v. AreRead 0 (contents sources.now) names.old v.items names.new) (IsFirstRefusal 0 (contents sources.now) names.old) }
-    ensures names { GrowsBy (1_048_576 * length sources.now) names.old names.new }
+    ensures answer { Explains refusal.Memory result (λ v. AreRead 0 (contents sources.now) names.old v.items names.new) (IsFirstRefusal 0 (contents sources.now) names.old) }
+    ensures names { GrowsBy (BYTES * length sources.now) names.old names.new }
 {
     let mut texts = Vec::new(alloc);
     for (number, source) in sources.iter().enumerate() {

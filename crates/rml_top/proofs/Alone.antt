@@ -1,29 +1,31 @@
 -- One text alone, and what a call over it comes to.
-use Rattle.std.proofs.Common.{◌≡◌, ℕ, List, [], ◌∷◌, length, Some, None, refl, sym, ap, subst, ◌∙◌}
-use Rattle.std.specs.Prelude.{◌≢◌, IfOk, IfErr, IfNone, Result, Ok, Err}
+use Rattle.std.proofs.Common.{◌≡◌, ℕ, true, List, [], ◌∷◌, length, Some, None, refl, sym, ap, subst, ◌∙◌}
+use Rattle.std.specs.Prelude.{IfOk, IfErr, IfNone, IfSome, Result, Ok, Err}
 use Rattle.std.specs.declared.option.Option.{Option}
-use Rattle.rml_stages.specs.Answers.{HasCause}
+use Rattle.rml_base.specs.Answers.{Explains}
 use Rattle.rml_stages.specs.Reading.{IsRefused}
 use Rattle.rml_stages.specs.declared.refusal.Refusal.{Refusal}
 use Rattle.rml_stages.specs.declared.refusal.Refusal.TheVariants.{Memory}
-use Rattle.rml_top.specs.Due.{AreAccepted, Outputs, PrintsFirst, Refuses}
+use Rattle.rml_top.specs.Due.{AreAccepted, Outputs, PrintsFirst, AreRefused}
+use Rattle.rml_top.specs.Line.{is_plain_run}
 use Rattle.rml_top.specs.Text.{IsText}
 use Rattle.rml_words.specs.Forms.{Asks, Run}
 
-alone : (bytes : List ℕ) (why : Refusal) → IsRefused 0 bytes [] why → Refuses (bytes ∷ []) why
+alone : (bytes : List ℕ) (why : Refusal) → IsRefused 0 bytes [] why → AreRefused (bytes ∷ []) why
 alone bytes why r = record { before = []; text = bytes; after = []; cut = refl; trees = []; new = []; read = refl; refused = r }
 
--- a refused call over the one text refuses the texts
-pub refuses-alone : {X Y : Type 0} (texts : List (List ℕ)) (bytes : List ℕ) (P : X → Type 0) (f : X → Y) (given : Result X Refusal) (result : Result Y Refusal) → texts ≡ bytes ∷ []
-    → HasCause given P (IsRefused 0 bytes []) → IfOk given (λ x. result ≡ Ok (f x)) → IfErr given (λ why. result ≡ Err why) → IfErr result (λ why. why ≢ Memory → Refuses texts why)
-refuses-alone texts bytes P f (Ok x) result e h ok err = subst (λ r. IfErr r (λ why. why ≢ Memory → Refuses texts why)) (sym ok) tt
-refuses-alone texts bytes P f (Err why) result e h ok err =
-    subst (λ r. IfErr r (λ why. why ≢ Memory → Refuses texts why)) (sym err)
-    (λ other. subst (λ (ts : List (List ℕ)). Refuses ts why) (sym e) (alone bytes why (h other)))
+-- what a call over the one text answers, as an answer for the texts
+pub alone-answers : {X Y : Type 0} (texts : List (List ℕ)) (bytes : List ℕ) (P : X → Type 0) (Q : Y → Type 0) (f : X → Y) (given : Result X Refusal) (result : Result Y Refusal) → texts ≡ bytes ∷ []
+    → Explains Memory given P (IsRefused 0 bytes []) → ((x : X) → P x → Q (f x)) → IfOk given (λ x. result ≡ Ok (f x)) → IfErr given (λ why. result ≡ Err why) → Explains Memory result Q (AreRefused texts)
+alone-answers texts bytes P Q f (Ok x) result e h more ok err = subst (λ r. Explains Memory r Q (AreRefused texts)) (sym ok) (more x h)
+alone-answers texts bytes P Q f (Err why) result e h more ok err =
+    subst (λ r. Explains Memory r Q (AreRefused texts)) (sym err)
+    (λ other. subst (λ (ts : List (List ℕ)). AreRefused ts why) (sym e) (alone bytes why (h other)))
 
-pub passes-on : {X Y : Type 0} (P : Refusal → Type 0) (f : X → Y) (given : Result X Refusal) (result : Result Y Refusal) → IfErr given P → IfOk given (λ x. result ≡ Ok (f x)) → IfErr given (λ why. result ≡ Err why) → IfErr result P
-passes-on P f (Ok x) result h ok err = subst (λ r. IfErr r P) (sym ok) tt
-passes-on P f (Err why) result h ok err = subst (λ r. IfErr r P) (sym err) h
+pub passes-on : {X Y : Type 0} (P : X → Type 0) (Q : Y → Type 0) (refused : Refusal → Type 0) (f : X → Y) (given : Result X Refusal) (result : Result Y Refusal)
+    → Explains Memory given P refused → ((x : X) → P x → Q (f x)) → IfOk given (λ x. result ≡ Ok (f x)) → IfErr given (λ why. result ≡ Err why) → Explains Memory result Q refused
+passes-on P Q refused f (Ok x) result h more ok err = subst (λ r. Explains Memory r Q refused) (sym ok) (more x h)
+passes-on P Q refused f (Err why) result h more ok err = subst (λ r. Explains Memory r Q refused) (sym err) h
 
 pub only-text : (texts : List (List ℕ)) (a b : List ℕ) → texts ≡ a ∷ [] → texts ≡ b ∷ [] → a ≡ b
 only-text texts a b e f = ap (λ (ts : List (List ℕ)). elim ts [ [] ↦ a | t ∷ ts ↦ t ]) (sym e ∙ f)
@@ -37,6 +39,13 @@ prints-none texts bytes (Ok None) e none = λ out p. none out (subst (λ (b : Li
 
 pub no-alone : (texts : List (List ℕ)) → (length texts ≡ 1 → ⊥) → (out : List ℕ) → ¬ PrintsFirst texts out
 no-alone texts many out p = many (ap length p.1)
+
+pub run-answers : {X : Type 0} (words texts : List (List ℕ)) (asks : Asks) (cells steps : ℕ) (files arguments : List (List ℕ)) (bytes : X → List ℕ) (result : Result (Option X) Refusal) → asks ≡ Run cells steps files arguments → is_plain_run words ≡ true
+    → Explains Memory result (λ given. IfSome given (λ text. AreAccepted texts × PrintsFirst texts (bytes text))) (AreRefused texts)
+    → Explains Memory result (λ given. IfSome given (λ text. Outputs words asks texts (bytes text))) (AreRefused texts)
+run-answers words texts asks cells steps files arguments bytes (Err x) e plain h = h
+run-answers words texts asks cells steps files arguments bytes (Ok None) e plain h = tt
+run-answers words texts asks cells steps files arguments bytes (Ok (Some x)) e plain h = subst (λ (a : Asks). Outputs words a texts (bytes x)) (sym e) (plain, h.0, h.1)
 
 pub run-unbuilt : {X E : Type 0} (words texts : List (List ℕ)) (asks : Asks) (cells steps : ℕ) (files arguments : List (List ℕ)) (result : Result (Option X) E) → asks ≡ Run cells steps files arguments
     → IfOk result (λ given. IfNone given (AreAccepted texts × ((out : List ℕ) → ¬ PrintsFirst texts out)))

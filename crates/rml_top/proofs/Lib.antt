@@ -15,3 +15,4 @@ pub mod Derived
 pub mod Accepted
 pub mod FirstDue
 pub mod EachDue
+pub mod LimitNotes

@@ -13,7 +13,7 @@ use Rattle.rml_lex.specs.declared.piece.LexKind.TheVariants as lexical
 use Rattle.rml_grammar.specs.declared.fault.ParseKind.{ParseKind}
 use Rattle.rml_grammar.specs.declared.fault.ParseKind.TheVariants as syntactic
 use Rattle.rml_words.specs.Forms.{Asks}
-use Rattle.rml_stages.specs.Answers.{contents}
+use Rattle.rml_stages.specs.Sources.{contents}
 use Rattle.rml_stages.specs.Reading.{IsRefused, is_misspelled, is_underived}
 use Rattle.rml_stages.specs.Refusals.{misspelled, underived}
 use Rattle.rml_stages.specs.declared.refusal.Refusal.{Refusal}
@@ -21,7 +21,7 @@ use Rattle.rml_stages.specs.declared.refusal.Refusal.TheVariants as refusal
 use Rattle.rml_stages.specs.declared.refusal.Which.{Which}
 use Rattle.rml_stages.specs.declared.refusal.Which.TheVariants as which
 use Rattle.rml_stages.specs.declared.source.Source.{Source}
-use Rattle.rml_top.specs.Due.{Refuses, IsDue, usage, unbuilt_command, many_texts, many_arguments, long_text, long_texts, limit, syntax_fault, done, unbuilt}
+use Rattle.rml_top.specs.Due.{AreRefused, IsDue, usage, unbuilt_command, many_texts, many_arguments, long_text, long_texts, limit, syntax_fault, done, unbuilt}
 use Rattle.rml_top.specs.Ends.{Work, Ends, Counts, Takes, IsPerformed, read_by}
 use Rattle.rml_top.specs.Line.{Reads, text_names, names_of}
 use Rattle.rml_top.specs.Performed.{Performed}
@@ -170,7 +170,7 @@ refused-inside : (number : ℕ) (bytes : List ℕ) (old : List (List ℕ)) (why 
 refused-inside number bytes old why (is_misspelled place kind f e) = subst IsInsideOf (sym e) (misspelled-inside place kind)
 refused-inside number bytes old why (is_underived spots new place kind s st e) = subst IsInsideOf (sym e) (underived-inside place kind)
 
-pub inside : (texts : List (List ℕ)) (why : Refusal) → Refuses texts why → IsInsideOf why
+pub inside : (texts : List (List ℕ)) (why : Refusal) → AreRefused texts why → IsInsideOf why
 inside texts why r = refused-inside (0 + length r.before) r.text r.new why r.refused
 
 inside-reads : (names : ℕ) (place : Option Place) (passed : Which) → IsInside place passed → read_by names (Limit place passed) ≡ names

@@ -20,7 +20,7 @@ use Rattle.rml_stages.specs.declared.refusal.Which.{Which}
 use Rattle.rml_stages.specs.declared.refusal.Which.TheVariants as which
 use Rattle.rml_stages.proofs.OneReading.{same-spots, one-text}
 use Rattle.rml_stages.proofs.OneReadingOfAll.{one-first-refusal, not-both-of-all}
-use Rattle.rml_top.specs.Due.{AreAccepted, Outputs, PrintsFirst, Refuses, IsDue, IsMissing, usage, unbuilt_command, many_texts, many_arguments, long_text, long_texts, limit, syntax_fault, done, unbuilt}
+use Rattle.rml_top.specs.Due.{AreAccepted, Outputs, PrintsFirst, AreRefused, IsDue, IsMissing, usage, unbuilt_command, many_texts, many_arguments, long_text, long_texts, limit, syntax_fault, done, unbuilt}
 use Rattle.rml_top.specs.Line.{Reads, takes_texts, text_names, arguments_of}
 use Rattle.rml_top.specs.FirstForm.{IsFirstForm}
 use Rattle.rml_top.specs.Sources.{AreTexts, IsReached, IsTooLong, PassTotal}
@@ -76,14 +76,14 @@ accepted words (ShowC cells files) texts out h = absurd h
 accepted words (Crun steps file arguments) texts out h = absurd h
 accepted words (Make relations) texts out h = absurd h
 
-not-refused : (texts : List (List ℕ)) (why : Refusal) → AreAccepted texts → Refuses texts why → ⊥
+not-refused : (texts : List (List ℕ)) (why : Refusal) → AreAccepted texts → AreRefused texts why → ⊥
 not-refused texts why a r = not-both-of-all 0 texts [] a.1 a.0 why a.2 r
 
 -- ---- the ends of a line whose texts are read
 
 data TextEnd : List (List ℕ) → Asks → List (List ℕ) → Status → List ℕ → Type 0 where
-  a_limit : {words : List (List ℕ)} {asks : Asks} {texts : List (List ℕ)} (place : Option Place) (passed : Which) → Refuses texts (refusal.Limit place passed) → TextEnd words asks texts (Limit place passed) []
-  a_fault : {words : List (List ℕ)} {asks : Asks} {texts : List (List ℕ)} (place : Place) (kind : Kind) → Refuses texts (refusal.Syntax place kind) → TextEnd words asks texts (Syntax place kind) []
+  a_limit : {words : List (List ℕ)} {asks : Asks} {texts : List (List ℕ)} (place : Option Place) (passed : Which) → AreRefused texts (refusal.Limit place passed) → TextEnd words asks texts (Limit place passed) []
+  a_fault : {words : List (List ℕ)} {asks : Asks} {texts : List (List ℕ)} (place : Place) (kind : Kind) → AreRefused texts (refusal.Syntax place kind) → TextEnd words asks texts (Syntax place kind) []
   an_output : {words : List (List ℕ)} {asks : Asks} {texts : List (List ℕ)} {out : List ℕ} → Outputs words asks texts out → TextEnd words asks texts (Done None) out
   no_output : {words : List (List ℕ)} {asks : Asks} {texts : List (List ℕ)} → AreAccepted texts → ((out : List ℕ) → ¬ Outputs words asks texts out) → TextEnd words asks texts Unbuilt []
 

@@ -2,6 +2,7 @@
 use Rattle.std.specs.Prelude.{◌≡◌, ℕ, ℤ, ◌+◌, true, List, [], ◌∷◌, ◌⊎◌, codes, IsSome}
 use Rattle.std.specs.declared.option.Option.{Option}
 use Rattle.std.specs.declared.option.Option.TheVariants.{None, Some}
+use Rattle.rml_base.specs.Answers.{OrMemory}
 use Rattle.rml_base.specs.declared.place.Place.{Place}
 use Rattle.rml_io.specs.Counts.{Rose}
 use Rattle.rml_io.specs.Sink.{and_bytes, TookFront}
@@ -88,10 +89,10 @@ pub record Answers (c : Call) (status : Status) : Type 0 where
   -- Nothing is written to the output but a front of what accepted texts give.
   pub only_accepted : (c.work.out' ≡ c.work.out) ⊎ ((text : List ℕ) × IsDueFor c.work (Done None) text × TookFront c.work.out c.work.out' text)
   -- Where no count rose and it is told what the files hold, that comes which is due, unless there was no memory.
-  pub exact : NoFault c → IsSome c.work.files.held → (due : Status) (text : List ℕ) → IsDueFor c.work due text → (status ≡ due) ⊎ (status ≡ Memory)
+  pub exact : NoFault c → IsSome c.work.files.held → (due : Status) (text : List ℕ) → IsDueFor c.work due text → OrMemory Memory status (status ≡ due)
   -- Where no count rose and it is told what the files hold, a text of the first form is run and all that it prints is written,
   -- unless there was no memory.
-  pub first_form : NoFault c → IsSome c.work.files.held → (text : List ℕ) → RunsFirstForm c.work text → ((status ≡ Done None) × IsWhole c (Done None) text) ⊎ (status ≡ Memory)
+  pub first_form : NoFault c → IsSome c.work.files.held → (text : List ℕ) → RunsFirstForm c.work text → OrMemory Memory status ((status ≡ Done None) × IsWhole c (Done None) text)
   -- Where no text is read, that comes which is due, whatever the files tell, unless the note can't be written.
   pub by_words : ¬ Rose c.notes c.notes' → ¬ ReadsTexts c.work → (due : Status) (text : List ℕ) → IsDueFor c.work due text → status ≡ due
 

@@ -3,6 +3,7 @@ use Rattle.std.specs.Prelude.{◌≡◌, ℕ, ◌<◌, ◌≤◌, true, false, L
 use Rattle.std.specs.FinMap as fin_map
 use Rattle.std.specs.declared.option.Option.{Option}
 use Rattle.std.specs.declared.option.Option.TheVariants.{Some, None}
+use Rattle.rml_base.specs.declared.limits.TheConstants.{ARGUMENTS, TEXTS}
 use Rattle.rml_base.specs.declared.place.Place.{Place}
 use Rattle.rml_io.specs.Files.{Held}
 use Rattle.rml_lex.specs.Places.{start}
@@ -25,9 +26,9 @@ use Rattle.rml_top.specs.Text.{IsText}
 abbrev pub AreAccepted : List (List ℕ) → Type 0
 AreAccepted texts = (trees : List Text) × (names : List (List ℕ)) × AreRead 0 texts [] trees names
 
--- this is the first refusal of the texts of a line
-abbrev pub Refuses : List (List ℕ) → Refusal → Type 0
-Refuses texts why = IsFirstRefusal 0 texts [] why
+-- the texts of a line are refused so: this is their first refusal
+abbrev pub AreRefused : List (List ℕ) → Refusal → Type 0
+AreRefused texts why = IsFirstRefusal 0 texts [] why
 
 -- there is one text, of the first form, which prints this
 abbrev pub PrintsFirst : List (List ℕ) → List ℕ → Type 0
@@ -51,9 +52,9 @@ pub data IsDue : Option Held → List (List ℕ) → Option Asks → Status → 
   -- by the words alone
   usage : {held : Option Held} {words : List (List ℕ)} → IsDue held words None Usage []
   unbuilt_command : {held : Option Held} {words : List (List ℕ)} {asks : Asks} → takes_texts asks ≡ false → IsDue held words (Some asks) Unbuilt []
-  many_texts : {held : Option Held} {words : List (List ℕ)} {asks : Asks} → takes_texts asks ≡ true → 64 < length (text_names asks)
+  many_texts : {held : Option Held} {words : List (List ℕ)} {asks : Asks} → takes_texts asks ≡ true → TEXTS < length (text_names asks)
       → IsDue held words (Some asks) (Limit None which.Texts) []
-  many_arguments : {held : Option Held} {words : List (List ℕ)} {asks : Asks} → takes_texts asks ≡ true → length (text_names asks) ≤ 64 → 64 < length (arguments_of asks)
+  many_arguments : {held : Option Held} {words : List (List ℕ)} {asks : Asks} → takes_texts asks ≡ true → length (text_names asks) ≤ TEXTS → ARGUMENTS < length (arguments_of asks)
       → IsDue held words (Some asks) (Limit None which.Arguments) []
   -- file by file
   long_text : {held : Option Held} {words : List (List ℕ)} {asks : Asks} {number : ℕ} → Reads asks → (r : IsReached held (text_names asks) number) → IsTooLong held r.name
@@ -62,9 +63,9 @@ pub data IsDue : Option Held → List (List ℕ) → Option Asks → Status → 
       → IsDue held words (Some asks) (Limit (Some (start number)) which.Total) []
   -- text by text
   limit : {held : Option Held} {words : List (List ℕ)} {asks : Asks} {place : Option Place} {passed : Which} (texts : List (List ℕ)) → Reads asks → AreTexts held (text_names asks) texts
-      → Refuses texts (refusal.Limit place passed) → IsDue held words (Some asks) (Limit place passed) []
+      → AreRefused texts (refusal.Limit place passed) → IsDue held words (Some asks) (Limit place passed) []
   syntax_fault : {held : Option Held} {words : List (List ℕ)} {asks : Asks} {place : Place} {kind : Kind} (texts : List (List ℕ)) → Reads asks → AreTexts held (text_names asks) texts
-      → Refuses texts (refusal.Syntax place kind) → IsDue held words (Some asks) (Syntax place kind) []
+      → AreRefused texts (refusal.Syntax place kind) → IsDue held words (Some asks) (Syntax place kind) []
   -- over accepted texts
   done : {held : Option Held} {words : List (List ℕ)} {asks : Asks} {out : List ℕ} (texts : List (List ℕ)) → Reads asks → AreTexts held (text_names asks) texts
       → Outputs words asks texts out → IsDue held words (Some asks) (Done None) out

@@ -2,6 +2,7 @@
 use Rattle.std.specs.Prelude.{◌≡◌, ℕ, ◌+◌, Bool, false, List, length}
 use Rattle.std.specs.declared.option.Option.{Option}
 use Rattle.std.specs.declared.option.Option.TheVariants.{Some, None}
+use Rattle.rml_base.specs.declared.limits.TheConstants.{BYTES, TOTAL}
 use Rattle.rml_io.specs.Counts.{Rose}
 use Rattle.rml_io.specs.Sink.{and_bytes, TookFront}
 use Rattle.rml_stages.specs.declared.refusal.Which.TheVariants as which
@@ -53,8 +54,8 @@ Counts w status = HaveRead (names_of w.line) (read_by (length (names_of w.line))
 
 -- Where too many bytes were met, so many were taken.
 abbrev pub Takes : Work → Status → Type 0
-Takes w (Limit (Some place) which.Bytes) = RoseBy 1048577 w.files.taken w.files'.taken
-Takes w (Limit (Some place) which.Total) = RoseBy 4194305 w.files.taken w.files'.taken
+Takes w (Limit (Some place) which.Bytes) = RoseBy (BYTES + 1) w.files.taken w.files'.taken
+Takes w (Limit (Some place) which.Total) = RoseBy (TOTAL + 1) w.files.taken w.files'.taken
 Takes w status = Unit {0}
 
 -- All that is so of a call before its note.

@@ -3,6 +3,7 @@ use Rattle.std.specs.Prelude.{◌≡◌, ℕ, ◌≤◌, Bool, true, false, List
 use Rattle.std.specs.declared.option.Option.{Option}
 use Rattle.std.specs.declared.option.Option.TheVariants.{Some, None}
 use Rattle.std.specs.Str.{bytes_eq}
+use Rattle.rml_base.specs.declared.limits.TheConstants.{ARGUMENTS, TEXTS}
 use Rattle.rml_words.specs.Forms.{Asks, Check, ShowTokens, ShowTree, Show, ShowC, Run, Crun, Make, IsLine}
 
 -- what the words ask for, or nothing, where they are of no form
@@ -60,8 +61,8 @@ is_run (Make relations) = false
 -- Texts are read: those of a command that takes them, neither of which nor of the arguments there are too many.
 pub record Reads (asks : Asks) : Type 0 where
   pub takes : takes_texts asks ≡ true
-  pub few_texts : length (text_names asks) ≤ 64
-  pub few_arguments : length (arguments_of asks) ≤ 64
+  pub few_texts : length (text_names asks) ≤ TEXTS
+  pub few_arguments : length (arguments_of asks) ≤ ARGUMENTS
 
 -- the words of a line are `run FILE`, without an option and without `--`
 abbrev pub is_plain_run : List (List ℕ) → Bool

@@ -3,6 +3,7 @@ use Rattle.std.specs.Prelude.{◌≡◌, ◌⊎◌, ℕ, Bool, if◌then◌else�
 use Rattle.std.specs.Fmt.{decimal}
 use Rattle.std.specs.declared.option.Option.{Option}
 use Rattle.std.specs.declared.option.Option.TheVariants.{Some, None}
+use Rattle.rml_base.specs.declared.limits.TheConstants.{ARGUMENTS, BYTES, LITERAL, NESTING, RULES, TEXTS, TOTAL}
 use Rattle.rml_base.specs.declared.place.Place.{Place}
 use Rattle.rml_io.specs.Counts.{Rose}
 use Rattle.rml_io.specs.Sink.{and_bytes, TookFront}
@@ -22,14 +23,18 @@ syntax_note IntRange = codes "syntax IntRange\n"
 syntax_note Real = codes "syntax Real\n"
 syntax_note Unexpected = codes "syntax Unexpected\n"
 
+-- the note of a limit by its name
+abbrev pub limit_text : List ℕ → ℕ → List ℕ
+limit_text name limit = codes "limit " ++ (name ++ (codes " " ++ (decimal limit ++ codes "\n")))
+
 abbrev pub limit_note : Which → List ℕ
-limit_note Texts = codes "limit texts 64\n"
-limit_note Arguments = codes "limit arguments 64\n"
-limit_note Bytes = codes "limit bytes 1048576\n"
-limit_note Total = codes "limit total 4194304\n"
-limit_note Literal = codes "limit literal 65535\n"
-limit_note Nesting = codes "limit nesting 200\n"
-limit_note Rules = codes "limit rules 4096\n"
+limit_note Texts = limit_text (codes "texts") TEXTS
+limit_note Arguments = limit_text (codes "arguments") ARGUMENTS
+limit_note Bytes = limit_text (codes "bytes") BYTES
+limit_note Total = limit_text (codes "total") TOTAL
+limit_note Literal = limit_text (codes "literal") LITERAL
+limit_note Nesting = limit_text (codes "nesting") NESTING
+limit_note Rules = limit_text (codes "rules") RULES
 
 -- `FILE: ` and then this
 abbrev pub with_file : List ℕ → List ℕ → List ℕ

@@ -1,5 +1,6 @@
 -- One file read, behind others.
 use Rattle.std.specs.Prelude.{◌≡◌, ℕ, ◌+◌, ◌<◌, ◌≤◌, ◌⊎◌, List, length}
+use Rattle.rml_base.specs.declared.limits.TheConstants.{BYTES, TOTAL}
 use Rattle.rml_io.specs.Counts.{raised, Rose}
 use Rattle.rml_io.specs.Files.{and_name}
 use Rattle.rml_stages.specs.declared.source.Source.{Source}
@@ -16,8 +17,8 @@ pub record HasRead (name : List ℕ) (before after : Seen) : Type 0 where
 pub record Next (name : List ℕ) (bytes : ℕ) (before after : Seen) (source : Source) : Type 0 where
   pub name_is : source.name ≡ name
   pub held : IsHeld before.held name source.bytes
-  pub within : length source.bytes ≤ 1048576
-  pub together : bytes + length source.bytes ≤ 4194304
+  pub within : length source.bytes ≤ BYTES
+  pub together : bytes + length source.bytes ≤ TOTAL
   pub taken : RoseBy (length source.bytes) before.taken after.taken
   pub read : HasRead name before after
 
@@ -29,7 +30,7 @@ pub record MayHaveRead (name : List ℕ) (before after : Seen) : Type 0 where
 -- the file of this number could not be read so
 abbrev pub NextStopped : List ℕ → ℕ → ℕ → Seen → Seen → NotRead → Type 0
 NextStopped name number bytes before after (Fault k) = (k ≡ number) × Rose before.faults after.faults × HasRead name before after
-NextStopped name number bytes before after (Bytes k) = (k ≡ number) × IsTooLong before.held name × RoseBy 1048577 before.taken after.taken × HasRead name before after
-NextStopped name number bytes before after (Total k) = (k ≡ number) × (text : List ℕ) × IsHeld before.held name text × (length text ≤ 1048576) × (4194304 < bytes + length text)
+NextStopped name number bytes before after (Bytes k) = (k ≡ number) × IsTooLong before.held name × RoseBy (BYTES + 1) before.taken after.taken × HasRead name before after
+NextStopped name number bytes before after (Total k) = (k ≡ number) × (text : List ℕ) × IsHeld before.held name text × (length text ≤ BYTES) × (TOTAL < bytes + length text)
     × RoseBy (length text) before.taken after.taken × HasRead name before after
 NextStopped name number bytes before after Memory = MayHaveRead name before after

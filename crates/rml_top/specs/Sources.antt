@@ -4,6 +4,7 @@ use Rattle.std.specs.FinMap as fin_map
 use Rattle.std.specs.Option.{option_map}
 use Rattle.std.specs.declared.option.Option.{Option}
 use Rattle.std.specs.declared.option.Option.TheVariants.{Some}
+use Rattle.rml_base.specs.declared.limits.TheConstants.{BYTES, TOTAL}
 use Rattle.rml_io.specs.Counts.{raised, Rose}
 use Rattle.rml_io.specs.Files.{Held}
 use Rattle.rml_stages.specs.declared.source.Source.{Source}
@@ -36,8 +37,8 @@ total texts = sum_by length texts
 
 -- no text has too many bytes, nor all together
 pub record AreWithin (texts : List (List ℕ)) : Type 0 where
-  pub each : All (λ text. length text ≤ 1048576) texts
-  pub together : total texts ≤ 4194304
+  pub each : All (λ text. length text ≤ BYTES) texts
+  pub together : total texts ≤ TOTAL
 
 -- These are the texts of the names, within the limits.
 pub record AreTexts (held : Option Held) (names texts : List (List ℕ)) : Type 0 where
@@ -56,11 +57,11 @@ pub record IsReached (held : Option Held) (names : List (List ℕ)) (number : �
 
 -- where it is told, more bytes are held under the name than a text may have
 abbrev pub IsTooLong : Option Held → List ℕ → Type 0
-IsTooLong held name = IfSome held (λ files. IsSomeAnd (fin_map.get files name) (λ bytes. 1048576 < length bytes))
+IsTooLong held name = IfSome held (λ files. IsSomeAnd (fin_map.get files name) (λ bytes. BYTES < length bytes))
 
 -- with that of the name, the texts have more bytes than all may have, but it has not too many itself
 abbrev pub PassTotal : Option Held → List (List ℕ) → List ℕ → Type 0
-PassTotal held texts name = (bytes : List ℕ) × IsHeld held name bytes × (length bytes ≤ 1048576) × (4194304 < total texts + length bytes)
+PassTotal held texts name = (bytes : List ℕ) × IsHeld held name bytes × (length bytes ≤ BYTES) × (TOTAL < total texts + length bytes)
 
 -- ---- what is counted
 
@@ -102,6 +103,6 @@ pub record AreSources (names : List (List ℕ)) (before after : Seen) (sources :
 -- reading stopped so
 abbrev pub Stopped : List (List ℕ) → Seen → Seen → NotRead → Type 0
 Stopped names before after (Fault k) = IsReached before.held names k × Rose before.faults after.faults × HaveRead names (k + 1) before after
-Stopped names before after (Bytes k) = (r : IsReached before.held names k) × IsTooLong before.held r.name × RoseBy 1048577 before.taken after.taken × HaveRead names (k + 1) before after
-Stopped names before after (Total k) = (r : IsReached before.held names k) × PassTotal before.held r.texts r.name × RoseBy 4194305 before.taken after.taken × HaveRead names (k + 1) before after
+Stopped names before after (Bytes k) = (r : IsReached before.held names k) × IsTooLong before.held r.name × RoseBy (BYTES + 1) before.taken after.taken × HaveRead names (k + 1) before after
+Stopped names before after (Total k) = (r : IsReached before.held names k) × PassTotal before.held r.texts r.name × RoseBy (TOTAL + 1) before.taken after.taken × HaveRead names (k + 1) before after
 Stopped names before after Memory = HaveReadSome names before after

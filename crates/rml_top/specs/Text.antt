@@ -1,6 +1,7 @@
 -- Texts of the first form, by their bytes, and what they print.
 use Rattle.std.specs.Prelude.{◌≡◌, ℕ, ◌≤◌, ◌==◌, nat_le, Bool, true, false, ◌&&◌, ◌||◌, not, if◌then◌else◌, List, [], ◌∷◌, length, flat_map}
 use Rattle.std.specs.List.{list_all}
+use Rattle.rml_base.specs.declared.limits.TheConstants.{BYTES}
 use Rattle.rml_lex.specs.Character.{unescaped}
 use Rattle.rml_lex.specs.Reading.{Part, Reaches}
 use Rattle.rml_lex.specs.declared.piece.Piece.{Piece}
@@ -43,7 +44,7 @@ is_simple literal = simple_from false literal
 
 -- The bytes are a text of the first form, which prints this.
 pub record IsText (bytes text : List ℕ) : Type 0 where
-  pub short : length bytes ≤ 1048576
+  pub short : length bytes ≤ BYTES
   pub tokens : List (List ℕ)
   pub literals : List (List ℕ)
   pub has_tokens : HasTokens bytes tokens

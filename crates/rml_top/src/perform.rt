@@ -1,7 +1,8 @@
 //! Does what a command asks for, but for the note.
 
 ghost use Rattle.std.specs.Prelude.{◌≡◌, ◌≤◌, Some, length, All};
-ghost use Rattle.rml_stages.specs.Answers.{contents};
+ghost use Rattle.rml_base.specs.declared.limits.TheConstants.{BYTES, TEXTS};
+ghost use Rattle.rml_stages.specs.Sources.{contents};
 ghost use Rattle.rml_words.specs.View.{asked, words_of};
 ghost use Rattle.rml_top.specs.Ends.{IsPerformed};
 ghost use Rattle.rml_top.specs.Line.{text_names, Reads};
@@ -58,8 +59,8 @@ fn answer<O: Sink>(
     sources: &[Source],
     out: &mut O,
 ) -> Status
-    requires count { length sources.now ≤ 64 }
-    requires size { All (λ s. length s.bytes ≤ 1048576) sources.now }
+    requires count { length sources.now ≤ TEXTS }
+    requires size { All (λ s. length s.bytes ≤ BYTES) sources.now }
     requires each { length sources.now ≡ length (text_names (asked command.now)) }
     ensures performed { Performed (words_of words.now) (asked command.now) (contents sources.now) (O.written out.old) (O.written out.new) (O.faults out.old) (O.faults out.new) result }
     ensures later { O.faults out.old ≤ O.faults out.new }

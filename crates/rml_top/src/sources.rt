@@ -1,6 +1,7 @@
 //! Reads the texts of a line, file by file.
 
 ghost use Rattle.std.specs.Prelude.{◌≡◌, ◌≤◌, length, IfOk, IfErr};
+ghost use Rattle.rml_base.specs.declared.limits.TheConstants.{TEXTS, TOTAL};
 ghost use Rattle.rml_top.specs.Names.{names_in};
 ghost use Rattle.rml_top.specs.Reading.{Next, NextStopped};
 ghost use Rattle.rml_top.specs.Sources.{AreSources, Stopped};
@@ -48,7 +49,7 @@ fn read_source<F: Files>(
     before: usize,
     files: &mut F,
 ) -> Result<Source, NotRead>
-    requires { before ≤ 4194304 }
+    requires { before ≤ TOTAL }
     ensures next { IfOk result (λ source. Next name.now before
         (record { held = F.held files.old; asked = F.asked files.old; faults = F.faults files.old; calls = F.calls files.old; taken = F.taken files.old })
         (record { held = F.held files.new; asked = F.asked files.new; faults = F.faults files.new; calls = F.calls files.new; taken = F.taken files.new }) source) }
@@ -84,7 +85,7 @@ pub fn read_sources<F: Files>(
     names: &FileNames,
     files: &mut F,
 ) -> Result<Vec<Source>, NotRead>
-    requires { length (names_in names.now) ≤ 64 }
+    requires { length (names_in names.now) ≤ TEXTS }
     ensures read { IfOk result (λ sources. AreSources (names_in names.now)
         (record { held = F.held files.old; asked = F.asked files.old; faults = F.faults files.old; calls = F.calls files.old; taken = F.taken files.old })
         (record { held = F.held files.new; asked = F.asked files.new; faults = F.faults files.new; calls = F.calls files.new; taken = F.taken files.new }) sources.items) }

@@ -2,6 +2,7 @@
 
 ghost use Rattle.std.specs.Prelude.{◌≡◌, ◌≤◌, ◌<◌, ◌^◌, ◌++◌, ℕ, List, length, flat_map, IfOk, OnOk, IfSome, IfNone};
 ghost use Rattle.std.specs.List.{list_all};
+ghost use Rattle.rml_base.specs.declared.limits.TheConstants.{BYTES};
 ghost use Rattle.rml_lex.specs.Character.{unescaped};
 ghost use Rattle.rml_top.specs.FirstForm.{spelled};
 ghost use Rattle.rml_top.specs.Text.{HasTokens, IsText, is_blank, is_refused, is_simple};
@@ -97,7 +98,7 @@ fn joined(alloc: Global, literals: &[&[u8]]) -> Result<Vec<u8>, Memory>
 
 /// What the text prints, where it is of the first form.
 pub fn printed(alloc: Global, bytes: &[u8]) -> Result<Option<Vec<u8>>, Memory>
-    requires { length bytes.now ≤ 1048576 }
+    requires { length bytes.now ≤ BYTES }
     ensures found { IfOk result (λ found. IfSome found (λ text. IsText bytes.now text.items)) }
     ensures only { IfOk result (λ found. IfNone found ((text : List ℕ) → ¬ IsText bytes.now text)) }
 {

@@ -1,10 +1,12 @@
 //! What the texts of a line give, once all are read from their files.
 
-ghost use Rattle.std.specs.Prelude.{◌≡◌, ◌≢◌, ◌≤◌, ◌<◌, ℕ, List, [], ◌∷◌, length, All, Ok, Err, Some, None, OnOk, IfOk, IfErr, IfSome, IfNone};
-ghost use Rattle.rml_stages.specs.Answers.{contents};
+ghost use Rattle.std.specs.Prelude.{◌≡◌, ◌≤◌, ◌<◌, ℕ, List, [], ◌∷◌, length, All, Ok, Err, Some, None, IfOk, IfErr, IfSome, IfNone};
+ghost use Rattle.rml_base.specs.Answers.{Explains};
+ghost use Rattle.rml_base.specs.declared.limits.TheConstants.{BYTES, TEXTS};
+ghost use Rattle.rml_stages.specs.Sources.{contents};
 ghost use Rattle.rml_stages.specs.declared.refusal.Refusal.TheVariants as refusal;
 ghost use Rattle.rml_words.specs.View.{asked, words_of};
-ghost use Rattle.rml_top.specs.Due.{AreAccepted, Outputs, PrintsFirst, Refuses};
+ghost use Rattle.rml_top.specs.Due.{AreAccepted, Outputs, PrintsFirst, AreRefused};
 ghost use Rattle.rml_top.specs.Line.{text_names};
 
 use crate::line::is_plain_run;
@@ -24,13 +26,14 @@ pub fn output(
     command: &Command,
     sources: &[Source],
 ) -> Result<Option<Vec<u8>>, Refusal>
-    requires count { length sources.now ≤ 64 }
-    requires size { All (λ s. length s.bytes ≤ 1048576) sources.now }
+    requires count { length sources.now ≤ TEXTS }
+    requires size { All (λ s. length s.bytes ≤ BYTES) sources.now }
     requires each { length sources.now ≡ length (text_names (asked command.now)) }
-    ensures given { IfOk result (λ given. IfSome given (λ text. Outputs (words_of words.now) (asked command.now) (contents sources.now) text.items)) }
+    ensures answer { Explains refusal.Memory result
+        (λ given. IfSome given (λ text. Outputs (words_of words.now) (asked command.now) (contents sources.now) text.items))
+        (AreRefused (contents sources.now)) }
     ensures unbuilt { IfOk result (λ given. IfNone given (AreAccepted (contents sources.now)
         × ((out : List ℕ) → ¬ Outputs (words_of words.now) (asked command.now) (contents sources.now) out))) }
-    ensures refused { IfErr result (λ why. why ≢ refusal.Memory → Refuses (contents sources.now) why) }
 {
     match command {
         Command::ShowTokens { .. } => with_output(show_tokens(alloc, only_text(sources))),
@@ -43,9 +46,9 @@ pub fn output(
 /// The bytes of the one text.
 fn only_text(sources: &[Source]) -> &[u8]
     requires one { length sources.now ≡ 1 }
-    requires size { All (λ s. length s.bytes ≤ 1048576) sources.now }
+    requires size { All (λ s. length s.bytes ≤ BYTES) sources.now }
     ensures alone { contents sources.now ≡ result.now ∷ [] }
-    ensures size { length result.now ≤ 1048576 }
+    ensures size { length result.now ≤ BYTES }
 {
     sources[0].bytes.as_slice()
 }
@@ -72,11 +75,12 @@ fn without_output(accepted: Result<(), Refusal>) -> Result<Option<Vec<u8>>, Refu
 
 /// What `run FILE` prints, where that is the text of the file.
 fn run_first_form(alloc: Global, sources: &[Source]) -> Result<Option<Vec<u8>>, Refusal>
-    requires count { length sources.now ≤ 64 }
-    requires size { All (λ s. length s.bytes ≤ 1048576) sources.now }
-    ensures given { IfOk result (λ given. IfSome given (λ text. AreAccepted (contents sources.now) × PrintsFirst (contents sources.now) text.items)) }
+    requires count { length sources.now ≤ TEXTS }
+    requires size { All (λ s. length s.bytes ≤ BYTES) sources.now }
+    ensures answer { Explains refusal.Memory result
+        (λ given. IfSome given (λ text. AreAccepted (contents sources.now) × PrintsFirst (contents sources.now) text.items))
+        (AreRefused (contents sources.now)) }
     ensures unbuilt { IfOk result (λ given. IfNone given (AreAccepted (contents sources.now) × ((out : List ℕ) → ¬ PrintsFirst (contents sources.now) out))) }
-    ensures refused { IfErr result (λ why. why ≢ refusal.Memory → Refuses (contents sources.now) why) }
 {
     match accept(alloc, sources) {
         Ok(()) => match printed_alone(alloc, sources) {
@@ -89,7 +93,7 @@ fn run_first_form(alloc: Global, sources: &[Source]) -> Result<Option<Vec<u8>>, 
 
 /// What the text prints, where there is one alone, of the first form.
 fn printed_alone(alloc: Global, sources: &[Source]) -> Result<Option<Vec<u8>>, Memory>
-    requires size { All (λ s. length s.bytes ≤ 1048576) sources.now }
+    requires size { All (λ s. length s.bytes ≤ BYTES) sources.now }
     ensures given { IfOk result (λ given. IfSome given (λ text. PrintsFirst (contents sources.now) text.items)) }
     ensures unbuilt { IfOk result (λ given. IfNone given ((out : List ℕ) → ¬ PrintsFirst (contents sources.now) out)) }
 {
@@ -102,10 +106,9 @@ fn printed_alone(alloc: Global, sources: &[Source]) -> Result<Option<Vec<u8>>, M
 
 /// Reads the texts, and keeps none of their trees.
 fn accept(alloc: Global, sources: &[Source]) -> Result<(), Refusal>
-    requires count { length sources.now ≤ 64 }
-    requires size { All (λ s. length s.bytes ≤ 1048576) sources.now }
-    ensures accepted { OnOk result (AreAccepted (contents sources.now)) }
-    ensures refused { IfErr result (λ why. why ≢ refusal.Memory → Refuses (contents sources.now) why) }
+    requires count { length sources.now ≤ TEXTS }
+    requires size { All (λ s. length s.bytes ≤ BYTES) sources.now }
+    ensures { Explains refusal.Memory result (λ _. AreAccepted (contents sources.now)) (AreRefused (contents sources.now)) }
 {
     let mut names = Names::new(alloc);
     match read_texts(alloc, sources, &mut names) {

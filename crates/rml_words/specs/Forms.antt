@@ -1,9 +1,11 @@
 -- The forms of the command line, without the program's name. A line of no form is a faulty one.
 use Rattle.std.specs.Prelude.{◌≡◌, ℕ, ◌<◌, ◌≤◌, ◌==◌, nat_le, Bool, true, false, ◌&&◌, not, List, [], ◌∷◌, ◌++◌, length, codes}
 use Rattle.std.specs.List.{list_all}
+use Rattle.rml_base.specs.declared.limits.TheConstants.{ARGUMENT, CELLS, DEFAULT_CELLS, DEFAULT_STEPS, STEPS}
 use Rattle.rml_words.specs.Numbers.{IsNumber}
 use Rattle.rml_words.specs.declared.command.Stage.{Stage}
 use Rattle.rml_words.specs.declared.command.Stage.TheVariants.{Types, Clauses, Factored, Trees, Cps, Simple, Code}
+use Rattle.rml_words.specs.declared.read.TheConstants.{RELATIONS}
 
 -- What a line asks for, with its words as bytes.
 pub data Asks : Type 0 where
@@ -33,7 +35,7 @@ pub record AreFiles (files : List (List ℕ)) : Type 0 where
 
 -- a word after `--`
 abbrev pub is_argument : List ℕ → Bool
-is_argument word = nat_le (length word) 1048576
+is_argument word = nat_le (length word) ARGUMENT
 
 abbrev pub stage_word : Stage → List ℕ
 stage_word Types = codes "types"
@@ -45,19 +47,19 @@ stage_word Simple = codes "simple"
 stage_word Code = codes "code"
 
 abbrev pub IsCells : List ℕ → ℕ → Type 0
-IsCells = IsNumber 1 67108864
+IsCells = IsNumber 1 CELLS
 
 abbrev pub IsSteps : List ℕ → ℕ → Type 0
-IsSteps = IsNumber 0 1000000000000
+IsSteps = IsNumber 0 STEPS
 
 -- `--cells N`, or nothing, which stands for the default
 pub data IsCellsOption : List (List ℕ) → ℕ → Type 0 where
-  default_cells : IsCellsOption [] 16777216
+  default_cells : IsCellsOption [] DEFAULT_CELLS
   some_cells : {word : List ℕ} {n : ℕ} → IsCells word n → IsCellsOption (codes "--cells" ∷ word ∷ []) n
 
 -- `--steps N`, or nothing, which stands for the default
 pub data IsStepsOption : List (List ℕ) → ℕ → Type 0 where
-  default_steps : IsStepsOption [] 100000000
+  default_steps : IsStepsOption [] DEFAULT_STEPS
   some_steps : {word : List ℕ} {n : ℕ} → IsSteps word n → IsStepsOption (codes "--steps" ∷ word ∷ []) n
 
 -- each option at most once, in either order
@@ -81,7 +83,7 @@ pub data IsLine : List (List ℕ) → Asks → Type 0 where
       → IsLine (codes "run" ∷ options ++ (files ++ tail)) (Run cells steps files arguments)
   crun : {options tail arguments : List (List ℕ)} {file : List ℕ} {steps : ℕ} → IsStepsOption options steps → is_file file ≡ true → AreArguments tail arguments
       → IsLine (codes "crun" ∷ options ++ (file ∷ tail)) (Crun steps file arguments)
-  make : {word : List ℕ} {n : ℕ} → IsNumber 1 3000 word n → IsLine (codes "make" ∷ word ∷ []) (Make n)
+  make : {word : List ℕ} {n : ℕ} → IsNumber 1 RELATIONS word n → IsLine (codes "make" ∷ word ∷ []) (Make n)
 
 -- What is so of all that a line asks for.
 abbrev pub IsInBounds : Asks → Type 0
@@ -89,7 +91,7 @@ IsInBounds (Check files) = AreFiles files
 IsInBounds (ShowTokens file) = is_file file ≡ true
 IsInBounds (ShowTree file) = is_file file ≡ true
 IsInBounds (Show stage files) = AreFiles files
-IsInBounds (ShowC cells files) = (1 ≤ cells) × (cells ≤ 67108864) × AreFiles files
-IsInBounds (Run cells steps files arguments) = (1 ≤ cells) × (cells ≤ 67108864) × (steps ≤ 1000000000000) × AreFiles files × (list_all is_argument arguments ≡ true)
-IsInBounds (Crun steps file arguments) = (steps ≤ 1000000000000) × (is_file file ≡ true) × (list_all is_argument arguments ≡ true)
-IsInBounds (Make relations) = (1 ≤ relations) × (relations ≤ 3000)
+IsInBounds (ShowC cells files) = (1 ≤ cells) × (cells ≤ CELLS) × AreFiles files
+IsInBounds (Run cells steps files arguments) = (1 ≤ cells) × (cells ≤ CELLS) × (steps ≤ STEPS) × AreFiles files × (list_all is_argument arguments ≡ true)
+IsInBounds (Crun steps file arguments) = (steps ≤ STEPS) × (is_file file ≡ true) × (list_all is_argument arguments ≡ true)
+IsInBounds (Make relations) = (1 ≤ relations) × (relations ≤ RELATIONS)

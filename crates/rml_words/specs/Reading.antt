@@ -4,10 +4,12 @@ use Rattle.std.specs.Option.{option_map, unwrap_or}
 use Rattle.std.specs.List.{list_all, prefix_len}
 use Rattle.std.specs.Char.{is_ascii_digit}
 use Rattle.std.specs.Str.{bytes_eq}
+use Rattle.rml_base.specs.declared.limits.TheConstants.{CELLS, DEFAULT_CELLS, DEFAULT_STEPS, STEPS}
 use Rattle.rml_words.specs.Numbers.{value_of}
 use Rattle.rml_words.specs.Forms.{Asks, Check, ShowTokens, ShowTree, Show, ShowC, Run, Crun, Make, is_file, is_argument}
 use Rattle.rml_words.specs.declared.command.Stage.{Stage}
 use Rattle.rml_words.specs.declared.command.Stage.TheVariants.{Types, Clauses, Factored, Trees, Cps, Simple, Code}
+use Rattle.rml_words.specs.declared.read.TheConstants.{RELATIONS}
 
 infixl 10 ◌>>=◌
 abbrev pub ◌>>=◌ : {A B : Type 0} → Option A → (A → Option B) → Option B
@@ -53,10 +55,10 @@ option_at name low high [] = Some (None, [])
 option_at name low high (w ∷ words) = if bytes_eq w name then numbered low high words else Some (None, w ∷ words)
 
 abbrev pub cells_at : List (List ℕ) → Option (Option ℕ × List (List ℕ))
-cells_at words = option_at (codes "--cells") 1 67108864 words
+cells_at words = option_at (codes "--cells") 1 CELLS words
 
 abbrev pub steps_at : List (List ℕ) → Option (Option ℕ × List (List ℕ))
-steps_at words = option_at (codes "--steps") 0 1000000000000 words
+steps_at words = option_at (codes "--steps") 0 STEPS words
 
 -- the cells that are known already, or those at the front
 abbrev pub cells_unless : Option ℕ → List (List ℕ) → Option (Option ℕ × List (List ℕ))
@@ -69,7 +71,7 @@ run_options words = do
   before ← cells_at words
   steps ← steps_at before.1
   cells ← cells_unless before.0 steps.1
-  Some (unwrap_or cells.0 16777216, unwrap_or steps.0 100000000, cells.1)
+  Some (unwrap_or cells.0 DEFAULT_CELLS, unwrap_or steps.0 DEFAULT_STEPS, cells.1)
 
 -- ---- lines, after their first word
 
@@ -85,7 +87,7 @@ stage_of word =
     else None))))))
 
 unfoldable pub show_c : List (List ℕ) → Option Asks
-show_c words = cells_at words >>= λ cells. option_map (λ files. ShowC (unwrap_or cells.0 16777216) files) (only_files cells.1)
+show_c words = cells_at words >>= λ cells. option_map (λ files. ShowC (unwrap_or cells.0 DEFAULT_CELLS) files) (only_files cells.1)
 
 unfoldable pub show_stage : List ℕ → List (List ℕ) → Option Asks
 show_stage word words = stage_of word >>= λ stage. option_map (λ files. Show stage files) (only_files words)
@@ -115,11 +117,11 @@ crun words = do
   steps ← steps_at words
   file ← file_at steps.1
   given ← arguments file.1
-  Some (Crun (unwrap_or steps.0 100000000) file.0 given)
+  Some (Crun (unwrap_or steps.0 DEFAULT_STEPS) file.0 given)
 
 unfoldable pub make : List (List ℕ) → Option Asks
 make [] = None
-make (w ∷ []) = option_map (λ n. Make n) (number 1 3000 w)
+make (w ∷ []) = option_map (λ n. Make n) (number 1 RELATIONS w)
 make (w ∷ v ∷ rest) = None
 
 unfoldable pub line : List (List ℕ) → Option Asks

@@ -7,12 +7,12 @@ use Rattle.rml_parse.proofs.Loops.{goes-on, ended, fails}
 use Rattle.rml_parse.proofs.datatypes.more_type_vars.Goals as goal
 
 pub loop-next-preserved : goal.loop-next-preserved
-loop-next-preserved c = rw c.in_ok-push.ensures.ok (goes-on (after mark.Comma) tyvar_at _ _ _ _ _ _ c.loop-next.invariant (sym c.in-Some.ensures.value) c.in_ok-item.ensures.gives (omega (arith, c.in_ok-item.ensures.shorter, c.in-Some.ensures.shorter)))
+loop-next-preserved c = rw c.in_ok-push.ensures.ok (goes-on (after mark.Comma) tyvar_at _ _ _ _ _ _ c.loop-next.invariant (sym c.in-Some.ensures.value) c.in_ok-item.ensures.mirrors (omega (arith, c.in_ok-item.ensures.shorter, c.in-Some.ensures.shorter)))
 
-pub returns-clause-gives : goal.returns-clause-gives
-returns-clause-gives c = ended (after mark.Comma) tyvar_at _ _ _ c.loop-next.invariant (sym c.in_default.ensures.value)
+pub returns-clause-mirrors : goal.returns-clause-mirrors
+returns-clause-mirrors c = ended (after mark.Comma) tyvar_at _ _ _ c.loop-next.invariant (sym c.in_default.ensures.value)
 
-pub returns-in_err-item-clause-gives : goal.returns-in_err-item-clause-gives
-returns-in_err-item-clause-gives c =
+pub returns-in_err-item-clause-mirrors : goal.returns-in_err-item-clause-mirrors
+returns-in_err-item-clause-mirrors c =
     let p = err_from_is_err_and c.from_residual.result c.from_residual.ensures.1 in
-    rw (p.1, p.2) (fails (after mark.Comma) tyvar_at _ _ _ _ _ c.loop-next.invariant (sym c.in-Some.ensures.value) (omega (arith, c.in-Some.ensures.shorter)) c.in_err-item.ensures.gives)
+    rw (p.1, p.2) (fails (after mark.Comma) tyvar_at _ _ _ _ _ c.loop-next.invariant (sym c.in-Some.ensures.value) (omega (arith, c.in-Some.ensures.shorter)) c.in_err-item.ensures.mirrors)

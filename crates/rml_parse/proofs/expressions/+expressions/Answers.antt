@@ -6,10 +6,10 @@ use Rattle.rml_parse.proofs.Loops.{goes-on, ended}
 use Rattle.rml_parse.proofs.expressions.+expressions.Goals as goal
 
 pub more_exps-loop-next-preserved : goal.more_exps-loop-next-preserved
-more_exps-loop-next-preserved t c = rw c.in_ok-push.ensures.ok (goes-on (after mark.Comma) (exp_at c.args.levels) _ _ _ _ _ _ c.loop-next.invariant (sym c.in-Some.ensures.value) c.in_ok-item.ensures.gives (omega (arith, c.in_ok-item.ensures.shorter, c.in-Some.ensures.shorter)))
+more_exps-loop-next-preserved t c = rw c.in_ok-push.ensures.ok (goes-on (after mark.Comma) (exp_at c.args.levels) _ _ _ _ _ _ c.loop-next.invariant (sym c.in-Some.ensures.value) c.in_ok-item.ensures.mirrors (omega (arith, c.in_ok-item.ensures.shorter, c.in-Some.ensures.shorter)))
 
 pub tails-loop-next-preserved : goal.tails-loop-next-preserved
-tails-loop-next-preserved t c = rw c.in_ok-push.ensures.ok (goes-on (after mark.TwoColons) (eapp_at c.args.levels) _ _ _ _ _ _ c.loop-next.invariant (sym c.in-Some.ensures.value) c.in_ok-item.ensures.gives (omega (arith, c.in_ok-item.ensures.shorter, c.in-Some.ensures.shorter)))
+tails-loop-next-preserved t c = rw c.in_ok-push.ensures.ok (goes-on (after mark.TwoColons) (eapp_at c.args.levels) _ _ _ _ _ _ c.loop-next.invariant (sym c.in-Some.ensures.value) c.in_ok-item.ensures.mirrors (omega (arith, c.in_ok-item.ensures.shorter, c.in-Some.ensures.shorter)))
 
-pub tails-returns-clause-gives : goal.tails-returns-clause-gives
-tails-returns-clause-gives t c = ended (after mark.TwoColons) (eapp_at c.args.levels) _ _ _ c.loop-next.invariant (sym c.in_default.ensures.value)
+pub tails-returns-clause-mirrors : goal.tails-returns-clause-mirrors
+tails-returns-clause-mirrors t c = ended (after mark.TwoColons) (eapp_at c.args.levels) _ _ _ c.loop-next.invariant (sym c.in_default.ensures.value)

@@ -1,4 +1,4 @@
-use Rattle.rml_stages.specs.Answers.{contents}
+use Rattle.rml_stages.specs.Sources.{contents}
 use Rattle.rml_stages.proofs.Calls.{gives-texts, refuses-texts}
 use Rattle.rml_stages.proofs.read.read_texts.Goals as goal
 

@@ -1,6 +1,6 @@
 use Rattle.std.proofs.Common.{rules, ◌≢◌, length}
 use Rattle.std.proofs.lemmas.List.{length-map}
-use Rattle.rml_stages.specs.Answers.{contents}
+use Rattle.rml_stages.specs.Sources.{contents}
 use Rattle.rml_top.proofs.Alone.{prints-none, no-alone}
 use Rattle.rml_top.proofs.texts.printed_alone.Goals as goal
 

@@ -1,4 +1,4 @@
--- When a function of the parser answers what the grammar of functions reads.
+-- When a function of the parser mirrors the grammar of functions: it answers what that reads.
 use Rattle.std.specs.Prelude.{◌≡◌, Result, Ok, Err}
 use Rattle.rml_grammar.specs.declared.fault.Fault.{Fault}
 use Rattle.rml_parse.specs.declared.stop.Stop.{Stop}
@@ -10,6 +10,6 @@ Fails stop.Memory read = Unit {0}
 Fails (stop.At f) read = read ≡ Err f
 
 -- what it returned, seen by view, is what reading gives, unless memory ran out
-abbrev pub Gives : {X Y : Type 0} → (X → Y) → Result X Stop → Result Y Fault → Type 0
-Gives view (Ok x) read = read ≡ Ok (view x)
-Gives view (Err e) read = Fails e read
+abbrev pub Mirrors : {X Y : Type 0} → (X → Y) → Result X Stop → Result Y Fault → Type 0
+Mirrors view (Ok x) read = read ≡ Ok (view x)
+Mirrors view (Err e) read = Fails e read
