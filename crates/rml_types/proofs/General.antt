@@ -1,6 +1,6 @@
 -- What the classes that spell a type, and the labels that number its variables, say of the most general type.
 use Rattle.std.proofs.Common.{◌≡◌, ℕ, zero, suc, ◌+◌, ◌-◌, ◌<◌, ◌≤◌, List, [], ◌∷◌, ◌++◌, length, map, refl, sym, ap, ◌∙◌, arith, subst, get_or, take, drop, Option, Some, None}
-use Rattle.std.specs.Prelude.{All, IsTrue, max, slice_index, option_and_then}
+use Rattle.std.specs.Prelude.{All, max, slice_index, option_and_then}
 use Rattle.std.specs.List.{AllByRecursion}
 use Rattle.std.proofs.Math.Nat.{le-max_left, le-max_right}
 use Rattle.std.proofs.lemmas.List.{length-map}
@@ -16,14 +16,14 @@ use Rattle.rml_types.specs.Kept.{IsGraph, known_by}
 use Rattle.rml_types.specs.Labels.{Label, labels}
 use Rattle.rml_types.specs.Nodes.{HasNoFixed, Fits, Nodes, class_of, form_in}
 use Rattle.rml_types.specs.Runs.{InScope, Ready, make, run}
-use Rattle.rml_types.specs.Schemes.{every, inst, unit, vars_below}
+use Rattle.rml_types.specs.Schemes.{inst, unit}
 use Rattle.rml_types.specs.Spelled.{IsName, Names, Numbered, Spells, Unfixed, Unfolds, class_labels, label_by, leaves, number_of, place}
 use Rattle.rml_types.specs.Walks.{Ends, Sizes}
 use Rattle.rml_types.specs.Written.{level, written}
 use Rattle.rml_types.proofs.FiniteTypes.{induct-built, nil-of, nodes-built}
 use Rattle.rml_types.proofs.Grown.{Equal, Less, More, none-some, order, past}
 use Rattle.rml_types.proofs.Growth.{begun-runs, make-inst, make-other}
-use Rattle.rml_types.proofs.LabelNumbers.{and-true, below-built, labels-nodes, variables-labels}
+use Rattle.rml_types.proofs.LabelNumbers.{labels-nodes, variables-labels}
 use Rattle.rml_types.proofs.Numbering.{at-place}
 use Rattle.rml_types.proofs.Spelled.{in-scope, known-form, leaf-at, nodes-some}
 use Rattle.rml_types.proofs.Substitutions.{inst-Var}
@@ -99,8 +99,8 @@ widens vs = induct-built (Widens vs) step where
   step con.Tuple ts fits a = widens-built vs con.Tuple ts fits (λ k q. not-fixed con.Tuple k refl q) a
   step (con.Rel inputs) ts fits a = widens-built vs (con.Rel inputs) ts fits (λ k q. not-fixed (con.Rel inputs) k refl q) a
 
-pub narrowest : (g : Nodes) (node : ℕ) (s : Scheme) (t : SchemeTree) → IsGeneral g node s → HasType g node t → nodes s.body ≤ nodes t
-narrowest g node s t general h = let i = (general t).1 h in let w = widens i.0 s.body in let e = ap nodes i.1 in omega arith
+pub narrowest : (g : Nodes) (node : ℕ) (body t : SchemeTree) → IsGeneral g node body → HasType g node t → nodes body ≤ nodes t
+narrowest g node body t general h = let i = (general t).1 h in let w = widens i.0 body in let e = ap nodes i.1 in omega arith
 
 only : {t u : SchemeTree} → t ∷ [] ≡ u ∷ [] → t ≡ u
 only e = cc
@@ -197,7 +197,7 @@ module _ (g : Nodes) (shapes : List (Option ℕ)) (is : IsGraph g shapes) (fine 
         (λ c lt inside. agree c lt inside ∙ sym (leaf-at leaf (length g.forms) c lt)) [])
         ∙ begun-runs vs scheme.body)
 
-    pub is-general : IsGeneral g node scheme
+    pub is-general : IsGeneral g node scheme.body
     is-general t = (
       λ i. (
           let leaf : ℕ → SchemeTree = λ c. get_or i.0 (place numbered.vars c) unit in
@@ -208,7 +208,7 @@ module _ (g : Nodes) (shapes : List (Option ℕ)) (is : IsGraph g shapes) (fine 
       ),
     )
 
-    pub is-numbered : IsNumbered scheme
+    pub is-numbered : IsNumbered scheme.vars scheme.body
     is-numbered = subst (λ ks. InOrder 0 ks scheme.vars) (sym (variables-labels scheme.body)) numbered.order
 
     pub is-narrow : (limit : ℕ) → length classes ≤ limit → nodes scheme.body ≤ limit
@@ -245,24 +245,10 @@ module _ (g : Nodes) (shapes : List (Option ℕ)) (is : IsGraph g shapes) (fine 
         twice [] h = refl
         twice (a ∷ args) h = rw (h zero (omega arith)) (ap (λ ts. types a ∷ ts) (twice args (λ i inside. h (suc i) (omega arith))))
 
-  level-named : (k c : ℕ) (o : Option Form) → known c ≡ o → c < length g.forms → ((f : Form) → o ≡ Some f → IsTrue (every (map (vars_below (length g.forms)) (map (widest k) f.args))))
-      → IsTrue (vars_below (length g.forms) (level (λ d. tree.Var d) (widest k) c o))
-  level-named k c None e lt rest = below-built (length g.forms) (con.Fixed c) [] lt refl
-  level-named k c (Some f) e lt rest = below-built (length g.forms) f.con (map (widest k) f.args) (in-scope (length g.forms) f.con (λ j q. unfixed c f j e q)) (rest f refl)
-
-  widest-named : (k n : ℕ) → n < length g.forms → IsTrue (vars_below (length g.forms) (widest k n))
-  widest-named zero n lt = below-built (length g.forms) con.Tuple [] tt refl
-  widest-named (suc k) n lt =
-      level-named k (class_of g n) (known (class_of g n)) refl (root-within n lt) (λ f q. each f.args (λ i inside. widest-named k (slice_index f.args i) (args-within (class_of g n) f q i inside)))
-    where
-      each : (args : List ℕ) → ((i : ℕ) → i < length args → IsTrue (vars_below (length g.forms) (widest k (slice_index args i)))) → IsTrue (every (map (vars_below (length g.forms)) (map (widest k) args)))
-      each [] h = refl
-      each (a ∷ args) h = and-true (vars_below (length g.forms) (widest k a)) (every (map (vars_below (length g.forms)) (map (widest k) args))) (h zero (omega arith)) (each args (λ i inside. h (suc i) (omega arith)))
-
   -- the most general type of a node, however wide it is
-  pub most-general : (node : ℕ) → node < length g.forms → (scheme : Scheme) × IsGeneral g node scheme
+  pub most-general : (node : ℕ) → node < length g.forms → (body : SchemeTree) × IsGeneral g node body
   most-general node lt = (
-    record { vars = length g.forms; body = widest (suc levels) node; vars_named = widest-named (suc levels) node lt },
+    widest (suc levels) node,
     λ t. (
       λ i. (
           let leaf : ℕ → SchemeTree = λ c. get_or i.0 c unit in

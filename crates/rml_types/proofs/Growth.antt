@@ -279,7 +279,7 @@ placing-ended g vars all made p sigma h = sym (p.types sigma h) ∙ one-left sig
 
 -- a node of a scheme's type over fresh nodes has the scheme's instances
 pub has-instances : (old mid new : Nodes) (vars : List ℕ) (node : ℕ) (scheme : Scheme) → Grows old mid → Fresh old mid vars → length vars ≡ scheme.vars → Grows mid new → node < length new.forms
-    → ((types : ℕ → SchemeTree) → HasTypes new types → run (map types vars) (labels scheme.body) [] ≡ types node ∷ []) → HasInstances old new node scheme
+    → ((types : ℕ → SchemeTree) → HasTypes new types → run (map types vars) (labels scheme.body) [] ≡ types node ∷ []) → HasInstances old new node scheme.body
 has-instances old mid new vars node scheme before fresh count after inside types = record {
   within = inside;
   instances = λ sigma h. (map sigma vars, is sigma h);
@@ -311,7 +311,7 @@ pub at-any : (all : List Label) (i : ℕ) (d : Label) → i < length all → get
 at-any all i d lt = get_or_default all i (get_or all i d) d lt
 
 pub instance-at : (old mid new : Nodes) (vars : List ℕ) (all : List Label) (scheme : Scheme) (r : Result ℕ Memory) → Grows old mid → Fresh old mid vars → length vars ≡ scheme.vars → all ≡ labels scheme.body → Grows mid new
-    → IfOk r (λ n. n < length new.forms) → IfOk r (λ n. (types : ℕ → SchemeTree) → HasTypes new types → run (map types vars) all [] ≡ types n ∷ []) → IfOk r (λ n. HasInstances old new n scheme)
+    → IfOk r (λ n. n < length new.forms) → IfOk r (λ n. (types : ℕ → SchemeTree) → HasTypes new types → run (map types vars) all [] ≡ types n ∷ []) → IfOk r (λ n. HasInstances old new n scheme.body)
 instance-at old mid new vars all scheme (Err e) before fresh count is after inside types = tt
 instance-at old mid new vars all scheme (Ok n) before fresh count is after inside types =
     has-instances old mid new vars n scheme before fresh count after inside (λ sigma h. ap (λ ls. run (map sigma vars) ls []) (sym is) ∙ types sigma h)

@@ -13,6 +13,7 @@ use Rattle.rml_types.specs.declared.tree.SchemeTree.{SchemeTree}
 use Rattle.rml_types.specs.declared.tree.SchemeTree.TheVariants as tree
 use Rattle.rml_types.specs.Finite.{built, nodes, sum_of}
 use Rattle.rml_types.specs.General.{InOrder, all_of, variables_at, variables_in}
+use Rattle.rml_types.specs.Instances.{IsInstance}
 use Rattle.rml_types.specs.Labels.{Label, all_labels, labels}
 use Rattle.rml_types.specs.Nodes.{Fits}
 use Rattle.rml_types.specs.Runs.{InScope, Ready, run}
@@ -74,11 +75,11 @@ order-below : (next : ℕ) (ks : List ℕ) (count : ℕ) → InOrder next ks cou
 order-below next [] count o = tt
 order-below next (k ∷ ks) count o = ((let h = order-least (max next (k + 1)) ks count o.1 in let m = le-max_right next (k + 1) in omega (arith, h, m)), order-below (max next (k + 1)) ks count o.1)
 
-all-left : {X : Type 0} (P : X → Type 0) (xs ys : List X) → AllByRecursion P (xs ++ ys) → AllByRecursion P xs
+pub all-left : {X : Type 0} (P : X → Type 0) (xs ys : List X) → AllByRecursion P (xs ++ ys) → AllByRecursion P xs
 all-left P [] ys a = tt
 all-left P (x ∷ xs) ys a = (a.0, all-left P xs ys a.1)
 
-all-right : {X : Type 0} (P : X → Type 0) (xs ys : List X) → AllByRecursion P (xs ++ ys) → AllByRecursion P ys
+pub all-right : {X : Type 0} (P : X → Type 0) (xs ys : List X) → AllByRecursion P (xs ++ ys) → AllByRecursion P ys
 all-right P [] ys a = a
 all-right P (x ∷ xs) ys a = all-right P xs ys a.1
 
@@ -181,6 +182,17 @@ bound (k ∷ ks) =
     let r = le-max_right (k + 1) b.0 in
     (max (k + 1) b.0, (omega (arith, l), all-up b.0 (max (k + 1) b.0) ks r b.1))
 
+-- each variable of a type is below some number
+pub below-bound : (t : SchemeTree) → (n : ℕ) × IsTrue (vars_below n t)
+below-bound t = let b = bound (numbers_in (labels t)) in (b.0, below-by-numbers b.0 t b.1)
+
+-- each variable for itself
+pub body-instance : (body : SchemeTree) → IsInstance body body
+body-instance body =
+    let b = below-bound body in
+    let vs = leaves (λ c. tree.Var c) b.0 in
+    (vs, sym (same b.0 vs body b.1 (leaf-at (λ c. tree.Var c) b.0)))
+
 -- types with the same labels are one type
 pub labels-one : (s t : SchemeTree) → labels s ≡ labels t → s ≡ t
 labels-one s t e =
@@ -193,7 +205,7 @@ labels-one s t e =
 
 -- the labels of a type are those of a type
 pub labels-ready : (t : SchemeTree) → (vars : ℕ) × Ready vars (labels t) 0
-labels-ready t = let b = bound (numbers_in (labels t)) in (b.0, begun-ready b.0 t (below-by-numbers b.0 t b.1))
+labels-ready t = let b = below-bound t in (b.0, begun-ready b.0 t b.1)
 
 -- a type made of the labels of another is the other
 pub copied : (r : Result SchemeTree Memory) (all : List Label) (t : SchemeTree) → all ≡ labels t → IfOk r (λ s. labels s ≡ all) → IfOk r (λ s. s ≡ t)

@@ -1,4 +1,3 @@
-pub mod ClassLists
 pub mod FiniteTypes
 pub mod Forgotten
 pub mod General
@@ -8,6 +7,7 @@ pub mod LabelLists
 pub mod LabelNumbers
 pub mod Numbering
 pub mod Pairs
+pub mod ParentLists
 pub mod Roots
 pub mod Solutions
 pub mod Spelled

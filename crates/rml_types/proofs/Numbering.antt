@@ -34,14 +34,14 @@ at-place f d (v ∷ vs) c lt = go (nat_eq c v) refl (at-place f d vs c) where
       rw (e, more) (rest less)
 
 -- a class that is among some has a place below their number, and another the place behind them
-place-known : (vars : List ℕ) (c : ℕ) → list_any (nat_eq c) vars ≡ true → place vars c < length vars
+pub place-known : (vars : List ℕ) (c : ℕ) → list_any (nat_eq c) vars ≡ true → place vars c < length vars
 place-known [] c e = cc
 place-known (v ∷ vs) c e = go (nat_eq c v) refl (place-known vs c) where
   go : (b : Bool) → nat_eq c v ≡ b → (list_any (nat_eq c) vs ≡ true → place vs c < length vs) → place (v ∷ vs) c < length (v ∷ vs)
   go true t rest = rw t (omega arith)
   go false t rest = let h : list_any (nat_eq c) vs ≡ true = rw t at e in let p = rest h in rw t (omega arith)
 
-place-new : (vars : List ℕ) (c : ℕ) → list_any (nat_eq c) vars ≡ false → (place vars c ≡ length vars) × (place (vars ++ c ∷ []) c ≡ length vars)
+pub place-new : (vars : List ℕ) (c : ℕ) → list_any (nat_eq c) vars ≡ false → (place vars c ≡ length vars) × (place (vars ++ c ∷ []) c ≡ length vars)
 place-new [] c e = (refl, (let t : nat_eq c c ≡ true = grind (arith, nat_tests) in rw t refl))
 place-new (v ∷ vs) c e = go (nat_eq c v) refl (place-new vs c) where
   go : (b : Bool) → nat_eq c v ≡ b → (list_any (nat_eq c) vs ≡ false → (place vs c ≡ length vs) × (place (vs ++ c ∷ []) c ≡ length vs))

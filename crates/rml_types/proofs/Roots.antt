@@ -4,7 +4,7 @@ use Rattle.std.proofs.lemmas.Bool.Decides.{nat_tests}
 use Rattle.std.proofs.Math.ListN.{set}
 use Rattle.std.proofs.lemmas.List.{get_or-set_other, get_or-set_same}
 use Rattle.std.proofs.Common.{◌⊎◌, inl, inr}
-use Rattle.rml_types.specs.Classes.{Falls, up, root_of, moved}
+use Rattle.rml_types.specs.UnionFind.{Falls, up, root_of, moved}
 
 pub by-test : {X : Type 0} (b : Bool) (x y z w : X) → (b ≡ true → x ≡ z) → (b ≡ false → y ≡ w) → (if b then x else y) ≡ (if b then z else w)
 by-test true x y z w h g = h refl

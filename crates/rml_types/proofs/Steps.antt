@@ -4,7 +4,7 @@ use Rattle.std.specs.Prelude.{◌==◌, true, false}
 use Rattle.std.proofs.lemmas.Bool.Decides.{nat_tests}
 use Rattle.rml_types.specs.declared.form.Form.{Form}
 use Rattle.rml_types.specs.Trees.{Tree, Same, Joins, Respects, SolvesBy}
-use Rattle.rml_types.specs.Classes.{moved}
+use Rattle.rml_types.specs.UnionFind.{moved}
 use Rattle.rml_types.specs.Waiting.{Agree, Alike, CanMeet, Closed, Known, Labels, Pairs, Unifying, Waits, argument_pairs, met_pairs}
 use Rattle.rml_types.proofs.Roots.{at-end}
 use Rattle.rml_types.proofs.Grown.{none-some}

@@ -1,7 +1,6 @@
 -- The laws of substitution, by induction over the type.
-use Rattle.std.proofs.Common.{◌≡◌, ℕ, ◌+◌, ◌<◌, List, [], ◌∷◌, map, sym, ap, ◌∙◌, refl, get_or, zero, suc, Bool, true, false, ◌&&◌, IsTrue, arith}
+use Rattle.std.proofs.Common.{◌≡◌, ℕ, ◌<◌, List, [], ◌∷◌, map, sym, ap, ◌∙◌, refl, get_or, zero, suc, Bool, true, false, ◌&&◌, IsTrue}
 use Rattle.std.specs.List.{AllByRecursion}
-use Rattle.rml_types.specs.declared.scheme.Scheme.{Scheme}
 use Rattle.rml_types.specs.declared.tree.SchemeTree.{SchemeTree}
 use Rattle.rml_types.specs.declared.tree.SchemeTree.TheVariants as tree
 use Rattle.rml_types.specs.Schemes.{below_at, every, inst, inst_at, unit, vars_below}
@@ -86,20 +85,5 @@ same n ts t below e = induct (λ t. IsTrue (vars_below n t) → inst ts t ≡ t)
     inst-Rel ts us vs ∙ ap (λ x. tree.Rel x (map (inst ts) vs)) (agree-all n (inst ts) (λ u. u) us a p ∙ map-same us) ∙ ap (tree.Rel us) (agree-all n (inst ts) (λ u. u) vs b q ∙ map-same vs)))
     t below
 
--- so many variables, from one on
-variables : ℕ → ℕ → List SchemeTree
-variables k zero = []
-variables k (suc n) = tree.Var k ∷ variables (suc k) n
-
-variables-at : (n j k : ℕ) → k < n → get_or (variables j n) k unit ≡ tree.Var (j + k)
-unfolding variables
-variables-at zero j k lt = absurd (omega arith)
-variables-at (suc n) j zero lt = ap tree.Var (omega arith)
-variables-at (suc n) j (suc k) lt = variables-at n (suc j) k (omega arith) ∙ ap tree.Var (omega arith)
-
-pub body-instance : (s : Scheme) → IsInstance s s.body
-body-instance s = let ts = variables 0 s.vars in
-    (ts, sym (same s.vars ts s.body s.vars_named (λ k lt. variables-at s.vars 0 k lt ∙ ap tree.Var (omega arith))))
-
-pub instance-instance : (s : Scheme) (ts : List SchemeTree) (t : SchemeTree) → IsInstance s t → IsInstance s (inst ts t)
-instance-instance s ts t i = (map (inst ts) i.0, ap (inst ts) i.1 ∙ twice ts i.0 s.body)
+pub instance-instance : (body t : SchemeTree) (ts : List SchemeTree) → IsInstance body t → IsInstance body (inst ts t)
+instance-instance body t ts i = (map (inst ts) i.0, ap (inst ts) i.1 ∙ twice ts i.0 body)

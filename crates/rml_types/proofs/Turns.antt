@@ -7,7 +7,7 @@ use Rattle.std.proofs.Math.Nat.{mul-le-mul_right}
 use Rattle.std.proofs.lemmas.List.{get_or-set_other, get_or-set_same, length-set, length-map, get_or-map}
 use Rattle.rml_types.specs.declared.form.Form.{Form}
 use Rattle.rml_types.specs.declared.form.UnifyErr.TheVariants.{Memory}
-use Rattle.rml_types.specs.Classes.{moved}
+use Rattle.rml_types.specs.UnionFind.{moved}
 use Rattle.rml_types.specs.Kept.{IsGraph, IsOpen, known_by}
 use Rattle.rml_types.specs.Nodes.{Nodes, form_in, root_in, form_of, class_of}
 use Rattle.rml_types.specs.Waiting.{CanMeet, Known, PairsBelow, Unifying, met_pairs}

@@ -1,6 +1,5 @@
 -- The most general type of a node, how its variables are numbered, and when it is too wide to be written out.
 use Rattle.std.specs.Prelude.{◌≡◌, ℕ, ◌+◌, ◌<◌, ◌≤◌, List, [], ◌∷◌, ◌++◌, max, ◌↔◌}
-use Rattle.rml_types.specs.declared.scheme.Scheme.{Scheme}
 use Rattle.rml_types.specs.declared.tree.SchemeTree.{SchemeTree, fold-SchemeTree}
 use Rattle.rml_types.specs.declared.tree.SchemeTree.TheOpen.{SchemeTree-F}
 use Rattle.rml_types.specs.Finite.{HasTypes, nodes}
@@ -11,9 +10,9 @@ use Rattle.rml_types.specs.Nodes.{Nodes}
 abbrev pub HasType : Nodes → ℕ → SchemeTree → Type 0
 HasType g node t = (types : ℕ → SchemeTree) × HasTypes g types × (types node ≡ t)
 
--- the instances of a scheme are exactly the types of a node
-abbrev pub IsGeneral : Nodes → ℕ → Scheme → Type 0
-IsGeneral g node scheme = (t : SchemeTree) → IsInstance scheme t ↔ HasType g node t
+-- the instances of a type are exactly the types of a node
+abbrev pub IsGeneral : Nodes → ℕ → SchemeTree → Type 0
+IsGeneral g node body = (t : SchemeTree) → IsInstance body t ↔ HasType g node t
 
 abbrev pub all_of : List (List ℕ) → List ℕ
 all_of [] = []
@@ -35,12 +34,12 @@ abbrev pub InOrder : ℕ → List ℕ → ℕ → Type 0
 InOrder next [] count = next ≡ count
 InOrder next (k ∷ ks) count = (k ≤ next) × InOrder (max next (k + 1)) ks count
 
--- the variables of a scheme are numbered from 0 on in order of first occurrence
-abbrev pub IsNumbered : Scheme → Type 0
-IsNumbered scheme = InOrder 0 (variables_in scheme.body) scheme.vars
+-- the variables of a type, so many, are numbered from 0 on in order of first occurrence
+abbrev pub IsNumbered : ℕ → SchemeTree → Type 0
+IsNumbered vars body = InOrder 0 (variables_in body) vars
 
 -- The node has a most general type, and each of its types has more nodes than a number.
 pub record IsWide (g : Nodes) (node limit : ℕ) : Type 0 where
-  pub general : Scheme
+  pub general : SchemeTree
   pub is : IsGeneral g node general
   pub wide : (t : SchemeTree) → HasType g node t → limit < nodes t

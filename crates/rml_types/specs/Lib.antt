@@ -1,4 +1,3 @@
-pub mod Classes
 pub mod Finite
 pub mod General
 pub mod Instances
@@ -10,6 +9,7 @@ pub mod Schemes
 pub mod Spelled
 pub mod Trees
 pub mod Turns
+pub mod UnionFind
 pub mod Waiting
 pub mod Walks
 pub mod Written

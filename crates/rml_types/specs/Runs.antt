@@ -2,7 +2,6 @@
 use Rattle.std.specs.Prelude.{◌≡◌, ℕ, ◌+◌, ◌-◌, ◌<◌, ◌≤◌, List, [], ◌∷◌, ◌++◌, length, take, drop, map, get_or, All}
 use Rattle.rml_types.specs.declared.form.TypeCon.{TypeCon}
 use Rattle.rml_types.specs.declared.form.TypeCon.TheVariants as con
-use Rattle.rml_types.specs.declared.scheme.Scheme.{Scheme}
 use Rattle.rml_types.specs.declared.tree.SchemeTree.{SchemeTree}
 use Rattle.rml_types.specs.Finite.{HasTypes, built}
 use Rattle.rml_types.specs.Instances.{IsInstance}
@@ -43,12 +42,12 @@ pub record Grows (old new : Nodes) : Type 0 where
   pub restricts : (types : ℕ → SchemeTree) → HasTypes new types → HasTypes old types
   pub extends : (types : ℕ → SchemeTree) → HasTypes old types → (later : ℕ → SchemeTree) × HasTypes new later × ((n : ℕ) → n < length old.forms → later n ≡ types n)
 
--- The node has exactly the instances of a scheme, whatever finite types the old graph has.
-pub record HasInstances (old new : Nodes) (node : ℕ) (scheme : Scheme) : Type 0 where
+-- The node has exactly the instances of a type, whatever finite types the old graph has.
+pub record HasInstances (old new : Nodes) (node : ℕ) (body : SchemeTree) : Type 0 where
   pub within : node < length new.forms
-  pub instances : (types : ℕ → SchemeTree) → HasTypes new types → IsInstance scheme (types node)
+  pub instances : (types : ℕ → SchemeTree) → HasTypes new types → IsInstance body (types node)
   pub each : (types : ℕ → SchemeTree) (ts : List SchemeTree) → HasTypes old types
-      → (later : ℕ → SchemeTree) × HasTypes new later × ((n : ℕ) → n < length old.forms → later n ≡ types n) × (later node ≡ inst ts scheme.body)
+      → (later : ℕ → SchemeTree) × HasTypes new later × ((n : ℕ) → n < length old.forms → later n ≡ types n) × (later node ≡ inst ts body)
 
 -- The first nodes are new and without forms, and may have any types.
 pub record Fresh (old new : Nodes) (nodes : List ℕ) : Type 0 where

@@ -12,8 +12,8 @@ mod general;
 mod instance;
 mod unify;
 
-use crate::classes::Classes;
 use crate::form::{Form, TypeCon, UnifyErr};
+use crate::union_find::UnionFind;
 use rml_base::Memory;
 use sqlite_items::Items;
 use std::alloc::Global;
@@ -32,7 +32,7 @@ enum Mark {
 pub struct Graph {
     alloc: Global,
     forms: Vec<Option<Form>>,
-    classes: Classes,
+    classes: UnionFind,
     /// Of a root, a node of its class that has a form.
     shapes: Vec<Option<usize>>,
     failed: Option<UnifyErr>,
@@ -64,7 +64,7 @@ impl Graph {
         Graph {
             alloc,
             forms: Vec::new(alloc),
-            classes: Classes::new(alloc),
+            classes: UnionFind::new(alloc),
             shapes: Vec::new(alloc),
             failed: None,
             marks: Vec::new(alloc),

@@ -1,4 +1,5 @@
-//! Types in reverse Polish order. A type is walked and made by way of this list, so that deep types need no deep stack.
+//! Types in reverse Polish order: each constructor after its arguments. A type is walked and made by way of this list, so
+//! that deep types need no deep stack.
 
 ghost use Rattle.std.specs.Prelude.{◌≡◌, ℕ, ◌+◌, ◌-◌, ◌≤◌, ◌++◌, ◌∷◌, [], length, IfOk, OnOk};
 ghost use Rattle.rml_types.specs.Finite.{built};
@@ -16,7 +17,8 @@ use std::alloc::Global;
 /// A constructor and the number of its arguments, which stand before it.
 pub type Label = (TypeCon, usize);
 
-/// The labels of a type.
+/// The labels of a type, each behind those of its arguments, the arguments from left to right. No two types have the same
+/// labels, and `tree_of` gives the type back.
 pub fn labels_of(alloc: Global, tree: &SchemeTree) -> Result<Vec<Label>, Memory>
     ensures { IfOk result (λ v. v.items ≡ labels tree.now) }
 {
@@ -31,7 +33,7 @@ pub fn labels_of(alloc: Global, tree: &SchemeTree) -> Result<Vec<Label>, Memory>
     Ok(labels)
 }
 
-/// The type of some labels.
+/// The type of some labels, which are those of a type.
 pub fn tree_of(alloc: Global, all: &[Label]) -> Result<SchemeTree, Memory>
     requires { (vars : ℕ) × Ready vars all.now 0 }
     ensures { IfOk result (λ t. labels t ≡ all.now) }

@@ -1,15 +1,19 @@
-//! What holds of substitutions, of the instances of schemes, and of most general types. These functions do nothing: their contracts are the laws.
+//! What holds of schemes, of substitutions and the instances that they give, of types by their labels and as trees, and of
+//! most general types. These functions do nothing: their contracts are the laws.
 
-ghost use Rattle.std.specs.Prelude.{◌≡◌, ◌<◌, ◌≤◌, ℕ, List, IsTrue, get_or, map};
+ghost use Rattle.std.specs.Prelude.{◌≡◌, ◌<◌, ◌≤◌, ℕ, List, IsTrue, get_or, length, map};
 ghost use Rattle.rml_types.specs.declared.scheme.Scheme.{Scheme};
 ghost use Rattle.rml_types.specs.declared.tree.SchemeTree.{SchemeTree};
 ghost use Rattle.rml_types.specs.declared.tree.SchemeTree.TheVariants as tree;
 ghost use Rattle.rml_types.specs.Schemes.{inst, unit, vars_below};
 ghost use Rattle.rml_types.specs.Finite.{nodes, tree_of};
-ghost use Rattle.rml_types.specs.General.{HasType, IsGeneral};
+ghost use Rattle.rml_types.specs.General.{HasType, IsGeneral, variables_in};
 ghost use Rattle.rml_types.specs.Nodes.{Nodes};
 ghost use Rattle.rml_types.specs.Trees.{Same};
 ghost use Rattle.rml_types.specs.Instances.{IsInstance};
+ghost use Rattle.rml_types.specs.Labels.{labels};
+ghost use Rattle.rml_types.specs.Runs.{Ready};
+ghost use Rattle.rml_types.specs.Spelled.{numbers_in};
 
 /// Substitution by lists of types.
 pub fn substitutions()
@@ -23,10 +27,27 @@ pub fn substitutions()
         → ((k : ℕ) → k < vars → get_or ts k unit ≡ tree.Var k) → inst ts t ≡ t }
 {}
 
-/// The instances of a scheme are what substitutions give.
+/// Each scheme's variables are below its count.
+pub fn scheme_vars()
+    ensures { (s : Scheme) → IsTrue (vars_below s.vars s.body) }
+{}
+
+/// The instances of a type are what substitutions give.
 pub fn instances()
-    ensures body { (s : Scheme) → IsInstance s s.body }
-    ensures instances { (s : Scheme) (ts : List SchemeTree) (t : SchemeTree) → IsInstance s t → IsInstance s (inst ts t) }
+    ensures body { (body : SchemeTree) → IsInstance body body }
+    ensures instances { (body t : SchemeTree) (ts : List SchemeTree) → IsInstance body t → IsInstance body (inst ts t) }
+{}
+
+/// Types by their labels.
+pub fn types_by_labels()
+    // types with the same labels are one type
+    ensures one { (s t : SchemeTree) → labels s ≡ labels t → s ≡ t }
+    // a type can be made of the labels of a type
+    ensures ready { (t : SchemeTree) → (vars : ℕ) × Ready vars (labels t) 0 }
+    // each node of a type has a label
+    ensures nodes { (t : SchemeTree) → length (labels t) ≡ nodes t }
+    // the variables among the labels are those of the type, from left to right
+    ensures variables { (t : SchemeTree) → numbers_in (labels t) ≡ variables_in t }
 {}
 
 /// Finite types, as trees.
@@ -37,5 +58,5 @@ pub fn finite_types()
 
 /// The most general type of a node is the narrowest of its types.
 pub fn general_types()
-    ensures narrowest { (g : Nodes) (node : ℕ) (s : Scheme) (t : SchemeTree) → IsGeneral g node s → HasType g node t → nodes s.body ≤ nodes t }
+    ensures narrowest { (g : Nodes) (node : ℕ) (body t : SchemeTree) → IsGeneral g node body → HasType g node t → nodes body ≤ nodes t }
 {}

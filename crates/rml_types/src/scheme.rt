@@ -17,17 +17,25 @@ use std::alloc::Global;
 pub struct Scheme {
     pub vars: u32,
     pub body: SchemeTree,
-    ghost vars_named: { IsTrue (vars_below vars body) },
+    pub ghost vars_named: { IsTrue (vars_below vars body) },
 }
 
 impl Scheme {
+    /// The scheme of a type, for a caller that knows each variable of `body` to be below `vars`.
+    pub fn of(vars: u32, body: SchemeTree) -> Scheme
+        requires { IsTrue (vars_below vars body) }
+        ensures { (result.vars ≡ vars) × (result.body ≡ body) }
+    {
+        Scheme { vars, body }
+    }
+
     /// The scheme, where each variable of `body` is below `vars`.
     pub fn checked(alloc: Global, vars: u32, body: SchemeTree) -> Result<Option<Scheme>, Memory>
         ensures there { IfOk result (λ o. IsSome o ↔ IsTrue (vars_below vars body)) }
         ensures same { IfOk result (λ o. IfSome o (λ s. (s.vars ≡ vars) × (s.body ≡ body))) }
     {
         match are_below(alloc, vars, &body) {
-            Ok(true) => Ok(Some(Scheme { vars, body })),
+            Ok(true) => Ok(Some(Scheme::of(vars, body))),
             Ok(false) => {
                 forget(body);
                 Ok(None)

@@ -10,9 +10,9 @@ ghost use Rattle.rml_types.specs.declared.form.Form.{Form};
 ghost use Rattle.rml_types.specs.declared.tree.SchemeTree.{SchemeTree};
 ghost use Rattle.rml_types.specs.declared.graph.Mark.TheVariants as mark;
 
-use crate::classes::Classes;
 use crate::form::Form;
 use crate::graph::{Graph, Mark, form_at};
+use crate::union_find::UnionFind;
 
 impl Graph {
     /// Whether the equations have a solution in finite types. It takes no memory.
@@ -47,7 +47,7 @@ fn forget(marks: &mut [Mark])
 /// Visits the classes of all nodes. True where no class is below itself.
 fn end_all(
     forms: &[Option<Form>],
-    classes: &mut Classes,
+    classes: &mut UnionFind,
     shapes: &[Option<usize>],
     marks: &mut [Mark],
     path: &mut Vec<(usize, usize)>,
@@ -65,7 +65,7 @@ fn end_all(
     ensures circle { result ≡ false → (size : ℕ → ℕ) → Sizes (root_in classes.old) (known_by forms.now shapes.now) size → ⊥ }
 {
     for node in 0..count {
-        let class = classes.root(node);
+        let class = classes.find(node);
         if !visit(forms, classes, shapes, marks, path, class) {
             return false;
         }
@@ -77,7 +77,7 @@ fn end_all(
 fn next_unfinished(
     args: &[usize],
     from: usize,
-    classes: &mut Classes,
+    classes: &mut UnionFind,
     marks: &[Mark],
 ) -> Option<(usize, usize)>
     requires within { (i : ℕ) → i < length args.now → slice_index args.now i < length classes.old }
@@ -88,7 +88,7 @@ fn next_unfinished(
     ensures none { IfNone result (DoneFrom (root_in classes.old) marks.now args.now from (length args.now)) }
 {
     for i in from..args.len() {
-        let class = classes.root(args[i]);
+        let class = classes.find(args[i]);
         if marks[class] != Mark::Done {
             return Some((i, class));
         }
@@ -99,7 +99,7 @@ fn next_unfinished(
 /// Of a class, the first argument from one on whose class is not done with.
 fn next_below(
     forms: &[Option<Form>],
-    classes: &mut Classes,
+    classes: &mut UnionFind,
     shapes: &[Option<usize>],
     marks: &[Mark],
     class: usize,
@@ -122,7 +122,7 @@ fn next_below(
 /// A step of the search from the last class of the way, which was taken off it. False where there is a circle.
 fn advance(
     forms: &[Option<Form>],
-    classes: &mut Classes,
+    classes: &mut UnionFind,
     shapes: &[Option<usize>],
     marks: &mut [Mark],
     path: &mut Vec<(usize, usize)>,
@@ -154,7 +154,7 @@ fn advance(
 /// Searches for a circle below a class, once. True where there is none: then the class is done with.
 fn visit(
     forms: &[Option<Form>],
-    classes: &mut Classes,
+    classes: &mut UnionFind,
     shapes: &[Option<usize>],
     marks: &mut [Mark],
     path: &mut Vec<(usize, usize)>,

@@ -12,11 +12,11 @@ ghost use Rattle.rml_types.specs.Runs.{Ready};
 ghost use Rattle.rml_types.specs.Spelled.{Numbered, Spells, Unfixed, Unfolds, args_in, class_labels, label_by, place, vars_with};
 ghost use Rattle.rml_types.specs.declared.tree.SchemeTree.{SchemeTree};
 
-use crate::classes::Classes;
 use crate::form::{Form, TypeCon};
 use crate::graph::{Graph, form_at};
 use crate::labels::{Label, tree_of};
 use crate::scheme::Scheme;
+use crate::union_find::UnionFind;
 use indexmap::IndexSet;
 use rml_base::Memory;
 use std::alloc::Global;
@@ -30,8 +30,8 @@ impl Graph {
         requires finite { (types : ℕ → SchemeTree) × HasTypes self.old types }
         requires unfixed { HasNoFixed self.old }
         ensures same { self.new ≡ self.old }
-        ensures general { IfOk result (λ o. IfSome o (IsGeneral self.old node)) }
-        ensures numbered { IfOk result (λ o. IfSome o IsNumbered) }
+        ensures general { IfOk result (λ o. IfSome o (λ s. IsGeneral self.old node s.body)) }
+        ensures numbered { IfOk result (λ o. IfSome o (λ s. IsNumbered s.vars s.body)) }
         ensures narrow { IfOk result (λ o. IfSome o (λ s. nodes s.body ≤ limit)) }
         ensures wide { IfOk result (λ o. IfNone o (IsWide self.old node limit)) }
     {
@@ -55,7 +55,7 @@ impl Graph {
 fn spelled(
     alloc: Global,
     forms: &[Option<Form>],
-    classes: &mut Classes,
+    classes: &mut UnionFind,
     shapes: &[Option<usize>],
     node: usize,
     limit: usize,
@@ -72,7 +72,7 @@ fn spelled(
     let mut waiting = Vec::new(alloc);
     waiting.push(node)?;
     while let Some(node) = waiting.pop() {
-        let class = classes.root(node);
+        let class = classes.find(node);
         let args = args_of(forms, shapes[class]);
         // What waits is at least one node each, and so is each argument.
         let room = (limit - spelled.len()).saturating_sub(waiting.len());

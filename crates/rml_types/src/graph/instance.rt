@@ -17,7 +17,7 @@ impl Graph {
     /// A node of the scheme's type, with new nodes for its variables.
     pub fn instance(&mut self, scheme: &Scheme) -> Result<usize, Memory>
         ensures grows { Grows self.old self.new }
-        ensures ok { IfOk result (λ n. HasInstances self.old self.new n scheme.now) }
+        ensures ok { IfOk result (λ n. HasInstances self.old self.new n scheme.now.body) }
     {
         let labels = labels_of(self.alloc, &scheme.body)?;
         let vars = self.fresh(scheme.vars)?;

@@ -4,17 +4,17 @@
 ghost use Rattle.std.specs.Prelude.{◌≡◌, ℕ, ◌<◌, ◌++◌, ◌∷◌, [], length, map, slice_index, slice_set, get_or, min, max, Option, Some, None, IfNone, IfErr, MatchResult, OnOk, OnErr, option_and_then};
 ghost use Rattle.std.specs.Option.{option_copied, option_or};
 ghost use Rattle.std.specs.Result.{result_err};
-ghost use Rattle.rml_types.specs.Classes.{moved};
 ghost use Rattle.rml_types.specs.Finite.{CannotEquateTypes, EquatesTypes};
 ghost use Rattle.rml_types.specs.Kept.{IsGraph, IsOpen, known_by};
 ghost use Rattle.rml_types.specs.Nodes.{CannotEquate, Equates, Nodes, Solves, form_in};
 ghost use Rattle.rml_types.specs.Trees.{Tree};
 ghost use Rattle.rml_types.specs.Turns.{Stuck, Turn};
+ghost use Rattle.rml_types.specs.UnionFind.{moved};
 ghost use Rattle.rml_types.specs.Waiting.{CanMeet, argument_pairs, met_pairs};
 
-use crate::classes::Classes;
 use crate::form::{Form, UnifyErr};
 use crate::graph::{Graph, form_at};
+use crate::union_find::UnionFind;
 use std::alloc::Global;
 
 type Pair = (usize, usize);
@@ -54,7 +54,7 @@ impl Graph {
 fn settle(
     alloc: Global,
     forms: &[Option<Form>],
-    classes: &mut Classes,
+    classes: &mut UnionFind,
     shapes: &mut [Option<usize>],
     a: usize,
     b: usize,
@@ -79,7 +79,7 @@ fn settle(
 /// Makes the two nodes of a pair equal, and lets the pairs of their arguments wait.
 fn equate(
     forms: &[Option<Form>],
-    classes: &mut Classes,
+    classes: &mut UnionFind,
     shapes: &mut [Option<usize>],
     m: usize,
     n: usize,
@@ -92,8 +92,8 @@ fn equate(
     ensures clash { result ≡ Err UnifyErr.Clash → Stuck forms.now classes.old shapes.old work.old.items m n }
     ensures err { OnErr result (IsOpen forms.now classes.new shapes.new) }
 {
-    let one = classes.root(m);
-    let other = classes.root(n);
+    let one = classes.find(m);
+    let other = classes.find(n);
     if one == other {
         return Ok(());
     }
@@ -105,7 +105,7 @@ fn equate(
 /// Makes two classes one, of which the lesser root stays, and lets the pairs of their arguments wait.
 fn unite(
     forms: &[Option<Form>],
-    classes: &mut Classes,
+    classes: &mut UnionFind,
     shapes: &mut [Option<usize>],
     kept: usize,
     lost: usize,
@@ -129,7 +129,7 @@ fn unite(
         meet(form, other, work)?;
     }
     shapes[kept] = shapes[kept].or(shapes[lost]);
-    classes.join(kept, lost);
+    classes.union(kept, lost);
     Ok(())
 }
 

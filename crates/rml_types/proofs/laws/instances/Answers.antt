@@ -1,4 +1,5 @@
-use Rattle.rml_types.proofs.Substitutions.{body-instance, instance-instance}
+use Rattle.rml_types.proofs.LabelNumbers.{body-instance}
+use Rattle.rml_types.proofs.Substitutions.{instance-instance}
 use Rattle.rml_types.proofs.laws.instances.Goals as goal
 
 pub returns-clause-body : goal.returns-clause-body

@@ -14,11 +14,11 @@ returns-then-args-room-clause-wide c =
     let s : Spelling (root_in c.args.classes.now) known (length c.args.forms.now) c.args.node (c.pop.new.self.items ++ c.in-Some.node ∷ []) (reverse c.loop-node.spelled.items) =
     subst (λ xs. Spelling (root_in c.args.classes.now) known (length c.args.forms.now) c.args.node xs (reverse c.loop-node.spelled.items)) c.in-Some.ensures.items c.loop-node.invariant.spelling in
     let lt = all-last (λ n. n < length c.args.forms.now) c.pop.new.self.items c.in-Some.node s.waits in
-    let is : c.root-class.result ≡ root_in c.args.classes.now c.in-Some.node =
-    c.root-class.ensures.root ∙ ap (λ cs. slice_index cs c.in-Some.node) c.loop-node.invariant.same ∙ sym (get_or_default c.args.classes.now c.in-Some.node c.in-Some.node 0 (let k = c.requires.graph.count in omega arith)) in
+    let is : c.find-class.result ≡ root_in c.args.classes.now c.in-Some.node =
+    c.find-class.ensures.root ∙ ap (λ cs. slice_index cs c.in-Some.node) c.loop-node.invariant.same ∙ sym (get_or_default c.args.classes.now c.in-Some.node c.in-Some.node 0 (let k = c.requires.graph.count in omega arith)) in
     let a = c.args_of-args.ensures in
     spelling-wide (root_in c.args.classes.now) known (length c.args.forms.now) c.args.node (known-fits c.args.forms.now c.args.classes.now c.args.shapes.now c.requires.graph) c.requires.unfixed
-    c.pop.new.self.items (reverse c.loop-node.spelled.items) c.in-Some.node c.root-class.result c.args.limit c.args_of-args.result.now s is a
+    c.pop.new.self.items (reverse c.loop-node.spelled.items) c.in-Some.node c.find-class.result c.args.limit c.args_of-args.result.now s is a
     (let l = length-reverse c.loop-node.spelled.items in let m = c.if-args-room.true in let n = c.len.ensures in let o = c.len-in-Some.ensures in let p = c.loop-node.spelled.ok.0 in let q = c.pop.new.self.ok.0 in let r = c.saturating_sub-room.ensures in omega arith)
 
 pub loop-node-preserved : goal.loop-node-preserved
@@ -27,18 +27,18 @@ loop-node-preserved c =
     let s : Spelling (root_in c.args.classes.now) known (length c.args.forms.now) c.args.node (c.pop.new.self.items ++ c.in-Some.node ∷ []) (reverse c.loop-node.spelled.items) =
     subst (λ xs. Spelling (root_in c.args.classes.now) known (length c.args.forms.now) c.args.node xs (reverse c.loop-node.spelled.items)) c.in-Some.ensures.items c.loop-node.invariant.spelling in
     let lt = all-last (λ n. n < length c.args.forms.now) c.pop.new.self.items c.in-Some.node s.waits in
-    let is : c.root-class.result ≡ root_in c.args.classes.now c.in-Some.node =
-    c.root-class.ensures.root ∙ ap (λ cs. slice_index cs c.in-Some.node) c.loop-node.invariant.same ∙ sym (get_or_default c.args.classes.now c.in-Some.node c.in-Some.node 0 (let k = c.requires.graph.count in omega arith)) in
+    let is : c.find-class.result ≡ root_in c.args.classes.now c.in-Some.node =
+    c.find-class.ensures.root ∙ ap (λ cs. slice_index cs c.in-Some.node) c.loop-node.invariant.same ∙ sym (get_or_default c.args.classes.now c.in-Some.node c.in-Some.node 0 (let k = c.requires.graph.count in omega arith)) in
     let next = spelling-next (root_in c.args.classes.now) known (length c.args.forms.now) c.args.node (known-fits c.args.forms.now c.args.classes.now c.args.shapes.now c.requires.graph) c.requires.unfixed
-    c.pop.new.self.items c.extend_from_slice.new.self.items (reverse c.loop-node.spelled.items) c.in-Some.node c.root-class.result c.args_of-args.result.now s is
-    (let w = c.root-class.ensures.within in let e = ap length c.loop-node.invariant.same in let k = c.requires.graph.count in omega arith)
-    c.args_of-args.ensures (subst (λ xs. All (λ m. m < length c.args.forms.now) xs) (sym c.args_of-args.ensures) (known-within c.args.forms.now c.args.classes.now c.args.shapes.now c.requires.graph c.root-class.result))
+    c.pop.new.self.items c.extend_from_slice.new.self.items (reverse c.loop-node.spelled.items) c.in-Some.node c.find-class.result c.args_of-args.result.now s is
+    (let w = c.find-class.ensures.within in let e = ap length c.loop-node.invariant.same in let k = c.requires.graph.count in omega arith)
+    c.args_of-args.ensures (subst (λ xs. All (λ m. m < length c.args.forms.now) xs) (sym c.args_of-args.ensures) (known-within c.args.forms.now c.args.classes.now c.args.shapes.now c.requires.graph c.find-class.result))
     c.in_ok-extend_from_slice.ensures.items in
     record {
-      same = c.root-class.ensures.same ∙ c.loop-node.invariant.same;
+      same = c.find-class.ensures.same ∙ c.loop-node.invariant.same;
       narrow = (let m = c.if-args-room.false in let n = c.len.ensures in let l = c.in_ok-push-2.ensures.len in let p = c.push-in-Some.new.self.ok.0 in let r = c.saturating_sub-room.ensures in omega arith);
       spelling = subst (λ xs. Spelling (root_in c.args.classes.now) known (length c.args.forms.now) c.args.node c.extend_from_slice.new.self.items xs)
-          (sym (ap reverse c.in_ok-push-2.ensures.items ∙ reverse-append c.loop-node.spelled.items (c.root-class.result ∷ []))) next;
+          (sym (ap reverse c.in_ok-push-2.ensures.items ∙ reverse-append c.loop-node.spelled.items (c.find-class.result ∷ []))) next;
     }
 
 pub returns-clause-some : goal.returns-clause-some

@@ -4,7 +4,7 @@ use Rattle.std.specs.Prelude.{slice_index, if◌then◌else◌, ◌==◌, true, 
 use Rattle.std.proofs.lemmas.Bool.Decides.{nat_tests}
 use Rattle.std.proofs.Math.ListN.{set}
 use Rattle.std.proofs.lemmas.List.{get_or-set_other, get_or-set_same, get_or_append_left, get_or_at, length-set}
-use Rattle.rml_types.specs.Classes.{Falls, SameRoots, up, root_of, roots, roots_from, moved}
+use Rattle.rml_types.specs.UnionFind.{Falls, SameRoots, up, root_of, roots, roots_from, moved}
 use Rattle.rml_types.proofs.Roots.{at-end, step-up, linked-up, stays, by-test}
 
 plus-zero : (k : ℕ) → k ≡ k + 0

@@ -1,5 +1,5 @@
-use Rattle.rml_types.proofs.ClassLists.{Found}
-use Rattle.rml_types.proofs.classes.find.Given as goal
+use Rattle.rml_types.proofs.ParentLists.{Found}
+use Rattle.rml_types.proofs.union_find.find_by_halving.Given as goal
 
 abbrev pub invariant-loop-parents : goal.invariant-loop-parents
 invariant-loop-parents l = Found l.initial.parents l.node l.parents l.at

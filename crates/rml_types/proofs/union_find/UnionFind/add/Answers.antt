@@ -1,7 +1,7 @@
 use Rattle.std.proofs.Common.{◌≡◌, ◌∙◌, ◌++◌, ◌∷◌, [], sym, ap, length, List, ℕ, arith}
-use Rattle.rml_types.specs.Classes.{roots}
-use Rattle.rml_types.proofs.ClassLists.{added, roots-length}
-use Rattle.rml_types.proofs.classes.Classes.add.Goals as goal
+use Rattle.rml_types.specs.UnionFind.{roots}
+use Rattle.rml_types.proofs.ParentLists.{added, roots-length}
+use Rattle.rml_types.proofs.union_find.UnionFind.add.Goals as goal
 
 pub returns-clause-node : goal.returns-clause-node
 returns-clause-node c = let v = ap length c.self.view_is in let l = roots-length c.self.inside.parents.items in let e = c.len-node.ensures in omega (arith, v, l, e)

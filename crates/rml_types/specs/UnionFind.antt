@@ -1,4 +1,4 @@
--- Classes of nodes, by parents.
+-- Union-find: classes of nodes, by parents.
 use Rattle.std.specs.Prelude.{◌≡◌, ℕ, zero, suc, ◌<◌, ◌≤◌, ◌==◌, List, [], ◌∷◌, length, slice_index, if◌then◌else◌}
 
 -- no parent has a greater number

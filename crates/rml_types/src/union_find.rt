@@ -1,7 +1,7 @@
-//! Classes of nodes: which nodes were made one. Each class is named by its least node, its root.
+//! Union-find: which nodes were made one class. Each class is named by its least node, its root.
 
 ghost use Rattle.std.specs.Prelude.{◌≡◌, ◌<◌, ◌≤◌, [], ◌∷◌, ◌++◌, length, map, slice_index, IfOk, OnOk, OnErr};
-ghost use Rattle.rml_types.specs.Classes.{Falls, SameRoots, moved, root_of};
+ghost use Rattle.rml_types.specs.UnionFind.{Falls, SameRoots, moved, root_of};
 
 use rml_base::Memory;
 use std::alloc::Global;
@@ -10,13 +10,13 @@ use std::marker::Model;
 /// Nodes from 0 on in classes, which contracts see as the list of each node's root. Each node leads to a lesser one of its
 /// class, up to the root, and ways that were gone are made shorter.
 #[derive(Drop)]
-pub struct Classes {
+pub struct UnionFind {
     parents: Vec<usize>,
 }
 
-impl Model for Classes {
+impl Model for UnionFind {
     ghost use Rattle.std.specs.Prelude.{List, ℕ};
-    ghost use Rattle.rml_types.specs.Classes.{Falls, roots};
+    ghost use Rattle.rml_types.specs.UnionFind.{Falls, roots};
 
     ghost Value = { List ℕ };
 
@@ -25,11 +25,11 @@ impl Model for Classes {
     ghost invariant = { λ c. Falls c.parents.items };
 }
 
-impl Classes {
-    pub fn new(alloc: Global) -> Classes
+impl UnionFind {
+    pub fn new(alloc: Global) -> UnionFind
         ensures { result ≡ [] }
     {
-        Classes {
+        UnionFind {
             parents: Vec::new(alloc),
         }
     }
@@ -46,18 +46,18 @@ impl Classes {
     }
 
     /// The root of a node's class.
-    pub fn root(&mut self, node: usize) -> usize
+    pub fn find(&mut self, node: usize) -> usize
         requires { node < length self.old }
         ensures root { result ≡ slice_index self.old node }
         ensures own { slice_index self.old result ≡ result }
         ensures within { result < length self.old }
         ensures same { self.new ≡ self.old }
     {
-        find(&mut self.parents, node)
+        find_by_halving(&mut self.parents, node)
     }
 
     /// Makes the classes of two roots one, whose root is the lesser.
-    pub fn join(&mut self, kept: usize, lost: usize)
+    pub fn union(&mut self, kept: usize, lost: usize)
         requires order { kept < lost }
         requires within { lost < length self.old }
         requires kept_root { slice_index self.old kept ≡ kept }
@@ -68,8 +68,8 @@ impl Classes {
     }
 }
 
-/// The root of a node. On the way each second node comes to lead to the one after the next.
-fn find(parents: &mut [usize], node: usize) -> usize
+/// The root of a node, with path halving: on the way each second node comes to lead to the one after the next.
+fn find_by_halving(parents: &mut [usize], node: usize) -> usize
     requires within { node < length parents.old }
     requires falls { Falls parents.old }
     ensures root { result ≡ root_of parents.old node }

@@ -1,8 +1,8 @@
 use Rattle.std.proofs.Common.{◌≡◌, ◌<◌, length, map, ◌∙◌, ap, arith, List, ℕ}
 use Rattle.std.specs.Prelude.{slice_index}
-use Rattle.rml_types.specs.Classes.{moved}
-use Rattle.rml_types.proofs.ClassLists.{joined-roots, roots-length, kept-own}
-use Rattle.rml_types.proofs.classes.Classes.join.Goals as goal
+use Rattle.rml_types.specs.UnionFind.{moved}
+use Rattle.rml_types.proofs.ParentLists.{joined-roots, roots-length, kept-own}
+use Rattle.rml_types.proofs.union_find.UnionFind.union.Goals as goal
 
 pub index_mut-requires : goal.index_mut-requires
 index_mut-requires c = let v = ap length c.self.view_is in let l = roots-length c.self.inside.parents.items in let w = c.requires.within in omega (arith, v, l, w)

@@ -1,0 +1,4 @@
+pub mod Instances
+pub mod Mutual
+pub mod Renamings
+pub mod Replacing
