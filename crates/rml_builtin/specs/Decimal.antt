@@ -5,8 +5,8 @@ use Rattle.rml_value.specs.Range.{is_integer}
 use Rattle.std.specs.Fmt.{signed_decimal}
 
 -- the decimal of an integer, with a `-` before a negative one
-abbrev pub written : ℤ → List ℕ
-written = signed_decimal
+abbrev pub decimal_of : ℤ → List ℕ
+decimal_of = signed_decimal
 
 -- the number that digits write after those of n
 abbrev pub digits_after : ℕ → List ℕ → ℕ
@@ -14,9 +14,9 @@ digits_after n [] = n
 digits_after n (c ∷ cs) = digits_after (n * 10 + (c - 48)) cs
 
 -- the number that one or more digits write
-abbrev pub number_of : List ℕ → Option ℕ
-number_of [] = None
-number_of (c ∷ cs) = if all_ascii_digits (c ∷ cs) then Some (digits_after 0 (c ∷ cs)) else None
+abbrev pub natural_of : List ℕ → Option ℕ
+natural_of [] = None
+natural_of (c ∷ cs) = if all_ascii_digits (c ∷ cs) then Some (digits_after 0 (c ∷ cs)) else None
 
 -- a `-` or a `~`
 abbrev pub is_minus : ℕ → Bool
@@ -25,11 +25,12 @@ is_minus c = (c == 45) || (c == 126)
 -- the number that an optional `-` or `~` and one or more digits write
 abbrev pub signed : List ℕ → Option ℤ
 signed [] = None
-signed (c ∷ cs) = if is_minus c then option_map (λ n. neg_ℤ (pos n)) (number_of cs) else option_map pos (number_of (c ∷ cs))
+signed (c ∷ cs) = if is_minus c then option_map (λ n. neg_ℤ (pos n)) (natural_of cs) else option_map pos (natural_of (c ∷ cs))
 
-abbrev pub in_range : ℤ → Option ℤ
-in_range n = if is_integer n then Some n else None
+-- a number, where it is an integer of the language
+abbrev pub integer_of : ℤ → Option ℤ
+integer_of n = if is_integer n then Some n else None
 
 -- the integer that a text writes
 abbrev pub read : List ℕ → Option ℤ
-read t = option_and_then in_range (signed t)
+read t = option_and_then integer_of (signed t)

@@ -1,6 +1,8 @@
 pub mod Types
 pub mod Table
-pub mod Given
+pub mod Names
+pub mod Applied
+pub mod Called
 pub mod Arguments
 pub mod Decimal
 pub mod Capped

@@ -21,11 +21,11 @@ abbrev pub cells_of : Value → ℕ
 cells_of v = cells_at (out-Value v) v
 
 -- the cells of the results of the rows that make a text, a list or a vector
-abbrev pub made : Row → List Value → ℕ
-made IntString vs = sum_by cells_of vs
-made StringAppend vs = sum_by cells_of vs
-made StringList vs = sum_by cells_of vs
-made ListString vs = sum_by cells_of vs
-made ListVector vs = sum_by cells_of vs
-made VectorList vs = sum_by cells_of vs
-made _ vs = 0
+abbrev pub cells_made : Row → List Value → ℕ
+cells_made IntString vs = sum_by cells_of vs
+cells_made StringAppend vs = sum_by cells_of vs
+cells_made StringList vs = sum_by cells_of vs
+cells_made ListString vs = sum_by cells_of vs
+cells_made ListVector vs = sum_by cells_of vs
+cells_made VectorList vs = sum_by cells_of vs
+cells_made _ vs = 0

@@ -1,10 +1,44 @@
--- The table of built-ins: the name and the type of each row, and whether it prints.
+-- The table of built-ins: the number, the name and the type of each row, and whether it prints.
 use Rattle.std.specs.Prelude.{ℕ, Bool, true, false, List, [], ◌∷◌, codes}
 use Rattle.rml_types.specs.declared.tree.SchemeTree.{SchemeTree}
 use Rattle.rml_types.specs.declared.tree.SchemeTree.TheVariants as tree
 use Rattle.rml_builtin.specs.declared.row.Row.{Row}
 use Rattle.rml_builtin.specs.declared.row.Row.TheVariants.{IntAdd, IntSub, IntMul, IntDiv, IntMod, IntNeg, IntAbs, IntMax, IntMin, IntLt, IntLe, IntGt, IntGe, IntEq, IntNe, IntString, StringInt, IntChar, CharInt, StringLength, StringNth, StringAppend, StringList, ListString, LvarNew, LvarGet, LvarSet, Print, ListVector, VectorList, VectorLength, VectorNth}
 use Rattle.rml_builtin.specs.Types.{a, int, char, string, bool, list, lvar, vector, option}
+
+abbrev pub row_number : Row → ℕ
+row_number IntAdd = 0
+row_number IntSub = 1
+row_number IntMul = 2
+row_number IntDiv = 3
+row_number IntMod = 4
+row_number IntNeg = 5
+row_number IntAbs = 6
+row_number IntMax = 7
+row_number IntMin = 8
+row_number IntLt = 9
+row_number IntLe = 10
+row_number IntGt = 11
+row_number IntGe = 12
+row_number IntEq = 13
+row_number IntNe = 14
+row_number IntString = 15
+row_number StringInt = 16
+row_number IntChar = 17
+row_number CharInt = 18
+row_number StringLength = 19
+row_number StringNth = 20
+row_number StringAppend = 21
+row_number StringList = 22
+row_number ListString = 23
+row_number LvarNew = 24
+row_number LvarGet = 25
+row_number LvarSet = 26
+row_number Print = 27
+row_number ListVector = 28
+row_number VectorList = 29
+row_number VectorLength = 30
+row_number VectorNth = 31
 
 abbrev pub name_of : Row → List ℕ
 name_of IntAdd = codes "int_add"

@@ -9,6 +9,7 @@ use rml_base::{Bytes, Memory};
 use rml_value::{Value, Values, items_of};
 use std::alloc::Global;
 
+/// One argument that is an integer.
 pub fn one_int(args: &[Value]) -> Option<i64>
     ensures { result ≡ one int_of args.now }
 {
@@ -18,6 +19,7 @@ pub fn one_int(args: &[Value]) -> Option<i64>
     }
 }
 
+/// One argument that is a character.
 pub fn one_char(args: &[Value]) -> Option<u8>
     ensures { result ≡ one char_of args.now }
 {
@@ -27,6 +29,7 @@ pub fn one_char(args: &[Value]) -> Option<u8>
     }
 }
 
+/// Two arguments that are integers.
 pub fn two_ints(args: &[Value]) -> Option<(i64, i64)>
     ensures { result ≡ two int_of int_of args.now }
 {

@@ -1,7 +1,7 @@
 //! Integers as texts.
 
 ghost use Rattle.std.specs.Prelude.{◌≡◌, IfOk};
-ghost use Rattle.rml_builtin.specs.Decimal.{written, number_of, read, in_range as in_range_or_none};
+ghost use Rattle.rml_builtin.specs.Decimal.{decimal_of, natural_of, read, integer_of};
 ghost use Rattle.rml_builtin.specs.Capped.{capped};
 
 use rml_base::{Bytes, Memory};
@@ -10,7 +10,7 @@ use std::alloc::Global;
 
 /// The decimal of an integer, with a `-` before a negative one.
 pub fn write_int(alloc: Global, n: i64) -> Result<Bytes, Memory>
-    ensures { IfOk result (λ t. t ≡ written n) }
+    ensures { IfOk result (λ t. t ≡ decimal_of n) }
 {
     let text = format!(in alloc; "{n}")?;
     Ok(Bytes::of(text.into_bytes()))
@@ -21,7 +21,7 @@ const FURTHEST: u64 = 1_073_741_824;
 
 /// The number that one or more digits write, where it is at most `FURTHEST`.
 fn number(digits: &[u8]) -> Option<u64>
-    ensures { result ≡ capped (number_of digits.now) }
+    ensures { result ≡ capped (natural_of digits.now) }
 {
     if digits.is_empty() {
         return None;
@@ -40,7 +40,7 @@ fn number(digits: &[u8]) -> Option<u64>
 }
 
 fn integer(n: i64) -> Option<i64>
-    ensures { result ≡ in_range_or_none n }
+    ensures { result ≡ integer_of n }
 {
     if in_range(n) { Some(n) } else { None }
 }

@@ -1,29 +1,29 @@
-//! The rows over logical variables.
+//! The rows over logical variables. Arguments of other kinds are Wrong, and so is a number that names no entry.
 
 ghost use Rattle.std.specs.Prelude.{◌≡◌, IfOk};
-ghost use Rattle.rml_builtin.specs.BuiltIns.{built_in};
+ghost use Rattle.rml_builtin.specs.BuiltIns.{apply};
 ghost use Rattle.rml_builtin.specs.Lvars.{get_lvar, set_lvar, option_value};
 
 use crate::answers::{answer, answer_one};
-use crate::given::{Bindings, Given};
+use crate::applied::{Applied, Store};
 use crate::row::Row;
 use rml_base::Memory;
 use rml_value::{NONE, SOME, Value, copy};
 use sqlite_items::Items;
 use std::alloc::Global;
 
-/// A new entry, which is unset.
-pub fn new(alloc: Global, args: &[Value], bindings: Bindings) -> Result<Given, Memory>
-    ensures { IfOk result (λ g. g ≡ built_in Row.LvarNew args.now bindings) }
+/// A new logical variable, with an entry of its own, which is unset.
+pub fn new(alloc: Global, args: &[Value], store: Store) -> Result<Applied, Memory>
+    ensures { IfOk result (λ g. g ≡ apply Row.LvarNew args.now store) }
 {
     match args {
         [] => {
-            let mut bindings = bindings;
-            let fresh = Value::Cell(bindings.len());
-            bindings.push(None)?;
-            answer_one(alloc, fresh, bindings)
+            let mut store = store;
+            let fresh = Value::Cell(store.len());
+            store.push(None)?;
+            answer_one(alloc, fresh, store)
         }
-        _ => Ok(Given::Wrong),
+        _ => Ok(Applied::Wrong),
     }
 }
 
@@ -40,49 +40,49 @@ fn option_of(alloc: Global, held: &Option<Value>) -> Result<Value, Memory>
     }
 }
 
-fn held_at(alloc: Global, k: usize, bindings: Bindings) -> Result<Given, Memory>
-    ensures { IfOk result (λ g. g ≡ get_lvar k bindings) }
+fn held_at(alloc: Global, k: usize, store: Store) -> Result<Applied, Memory>
+    ensures { IfOk result (λ g. g ≡ get_lvar k store) }
 {
-    match bindings.get(k) {
-        None => Ok(Given::Wrong),
+    match store.get(k) {
+        None => Ok(Applied::Wrong),
         Some(held) => {
             let value = option_of(alloc, held)?;
-            answer_one(alloc, value, bindings)
+            answer_one(alloc, value, store)
         }
     }
 }
 
-/// What an entry holds.
-pub fn get(alloc: Global, args: &[Value], bindings: Bindings) -> Result<Given, Memory>
-    ensures { IfOk result (λ g. g ≡ built_in Row.LvarGet args.now bindings) }
+/// What the entry of a logical variable holds, as an option.
+pub fn get(alloc: Global, args: &[Value], store: Store) -> Result<Applied, Memory>
+    ensures { IfOk result (λ g. g ≡ apply Row.LvarGet args.now store) }
 {
     match args {
-        [Value::Cell(k)] => held_at(alloc, *k, bindings),
-        _ => Ok(Given::Wrong),
+        [Value::Cell(k)] => held_at(alloc, *k, store),
+        _ => Ok(Applied::Wrong),
     }
 }
 
-fn set_at(alloc: Global, k: usize, value: &Value, bindings: Bindings) -> Result<Given, Memory>
-    ensures { IfOk result (λ g. g ≡ set_lvar k value.now bindings) }
+fn set_at(alloc: Global, k: usize, value: &Value, store: Store) -> Result<Applied, Memory>
+    ensures { IfOk result (λ g. g ≡ set_lvar k value.now store) }
 {
-    let mut bindings = bindings;
-    match bindings.get(k) {
-        None => Ok(Given::Wrong),
-        Some(Some(_)) => Ok(Given::No),
+    let mut store = store;
+    match store.get(k) {
+        None => Ok(Applied::Wrong),
+        Some(Some(_)) => Ok(Applied::No),
         Some(None) => {
             let value = copy(alloc, value)?;
-            bindings.set(k, Some(value));
-            Ok(answer(alloc, Items::new(alloc), bindings))
+            store.set(k, Some(value));
+            Ok(answer(alloc, Items::new(alloc), store))
         }
     }
 }
 
-/// Sets an entry that is unset.
-pub fn set(alloc: Global, args: &[Value], bindings: Bindings) -> Result<Given, Memory>
-    ensures { IfOk result (λ g. g ≡ built_in Row.LvarSet args.now bindings) }
+/// No result; it sets the entry of a logical variable that is unset, and there is no answer where it is set.
+pub fn set(alloc: Global, args: &[Value], store: Store) -> Result<Applied, Memory>
+    ensures { IfOk result (λ g. g ≡ apply Row.LvarSet args.now store) }
 {
     match args {
-        [Value::Cell(k), value] => set_at(alloc, *k, value, bindings),
-        _ => Ok(Given::Wrong),
+        [Value::Cell(k), value] => set_at(alloc, *k, value, store),
+        _ => Ok(Applied::Wrong),
     }
 }

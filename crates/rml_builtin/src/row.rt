@@ -123,7 +123,8 @@ pub fn builtin(number: u16) -> BuiltinRow
     }
 }
 
-fn name(row: Row) -> &'static str
+/// The name of a row.
+pub fn name(row: Row) -> &'static str
     ensures { result.now ≡ name_of row }
 {
     match row {

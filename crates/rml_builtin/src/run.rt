@@ -1,71 +1,61 @@
-//! What each row gives.
+//! What each row gives of its arguments and the store.
 
 ghost use Rattle.std.specs.Prelude.{◌≡◌, IfOk};
-ghost use Rattle.rml_builtin.specs.BuiltIns.{built_in as built_in_of, built_in_at as built_in_of_number};
+ghost use Rattle.rml_builtin.specs.BuiltIns.{apply as effect_of, apply_at as effect_of_number};
 
-use crate::given::{Bindings, Given};
+use crate::applied::{Applied, Store};
 use crate::row::{Row, row_at};
 use crate::{arithmetic, comparisons, lvars, texts, vectors};
 use rml_base::Memory;
 use rml_value::Value;
 use std::alloc::Global;
 
-/// What a row gives of its arguments and the bindings.
-pub fn built_in(
-    alloc: Global,
-    row: Row,
-    args: &[Value],
-    bindings: Bindings,
-) -> Result<Given, Memory>
-    ensures { IfOk result (λ g. g ≡ built_in_of row args.now bindings) }
+/// What a row gives of its arguments and the store.
+pub fn apply(alloc: Global, row: Row, args: &[Value], store: Store) -> Result<Applied, Memory>
+    ensures { IfOk result (λ g. g ≡ effect_of row args.now store) }
 {
     match row {
-        Row::IntAdd => arithmetic::sum(alloc, args, bindings),
-        Row::IntSub => arithmetic::difference(alloc, args, bindings),
-        Row::IntMul => arithmetic::product(alloc, args, bindings),
-        Row::IntDiv => arithmetic::quotient(alloc, args, bindings),
-        Row::IntMod => arithmetic::remainder(alloc, args, bindings),
-        Row::IntNeg => arithmetic::negation(alloc, args, bindings),
-        Row::IntAbs => arithmetic::absolute_value(alloc, args, bindings),
-        Row::IntMax => arithmetic::greatest(alloc, args, bindings),
-        Row::IntMin => arithmetic::least(alloc, args, bindings),
-        Row::IntLt => comparisons::is_less(alloc, args, bindings),
-        Row::IntLe => comparisons::is_at_most(alloc, args, bindings),
-        Row::IntGt => comparisons::is_greater(alloc, args, bindings),
-        Row::IntGe => comparisons::is_at_least(alloc, args, bindings),
-        Row::IntEq => comparisons::is_equal(alloc, args, bindings),
-        Row::IntNe => comparisons::is_unequal(alloc, args, bindings),
-        Row::IntString => texts::written(alloc, args, bindings),
-        Row::StringInt => texts::read(alloc, args, bindings),
-        Row::IntChar => texts::character(alloc, args, bindings),
-        Row::CharInt => texts::code(alloc, args, bindings),
-        Row::StringLength => texts::length(alloc, args, bindings),
-        Row::StringNth => texts::nth(alloc, args, bindings),
-        Row::StringAppend => texts::joined(alloc, args, bindings),
-        Row::StringList => texts::characters(alloc, args, bindings),
-        Row::ListString => texts::text(alloc, args, bindings),
-        Row::LvarNew => lvars::new(alloc, args, bindings),
-        Row::LvarGet => lvars::get(alloc, args, bindings),
-        Row::LvarSet => lvars::set(alloc, args, bindings),
-        Row::Print => texts::print(alloc, args, bindings),
-        Row::ListVector => vectors::of_list(alloc, args, bindings),
-        Row::VectorList => vectors::list(alloc, args, bindings),
-        Row::VectorLength => vectors::length(alloc, args, bindings),
-        Row::VectorNth => vectors::nth(alloc, args, bindings),
+        Row::IntAdd => arithmetic::sum(alloc, args, store),
+        Row::IntSub => arithmetic::difference(alloc, args, store),
+        Row::IntMul => arithmetic::product(alloc, args, store),
+        Row::IntDiv => arithmetic::quotient(alloc, args, store),
+        Row::IntMod => arithmetic::remainder(alloc, args, store),
+        Row::IntNeg => arithmetic::negation(alloc, args, store),
+        Row::IntAbs => arithmetic::absolute_value(alloc, args, store),
+        Row::IntMax => arithmetic::greatest(alloc, args, store),
+        Row::IntMin => arithmetic::least(alloc, args, store),
+        Row::IntLt => comparisons::is_less(alloc, args, store),
+        Row::IntLe => comparisons::is_at_most(alloc, args, store),
+        Row::IntGt => comparisons::is_greater(alloc, args, store),
+        Row::IntGe => comparisons::is_at_least(alloc, args, store),
+        Row::IntEq => comparisons::is_equal(alloc, args, store),
+        Row::IntNe => comparisons::is_unequal(alloc, args, store),
+        Row::IntString => texts::written(alloc, args, store),
+        Row::StringInt => texts::read(alloc, args, store),
+        Row::IntChar => texts::character(alloc, args, store),
+        Row::CharInt => texts::code(alloc, args, store),
+        Row::StringLength => texts::length(alloc, args, store),
+        Row::StringNth => texts::nth(alloc, args, store),
+        Row::StringAppend => texts::joined(alloc, args, store),
+        Row::StringList => texts::characters(alloc, args, store),
+        Row::ListString => texts::text(alloc, args, store),
+        Row::LvarNew => lvars::new(alloc, args, store),
+        Row::LvarGet => lvars::get(alloc, args, store),
+        Row::LvarSet => lvars::set(alloc, args, store),
+        Row::Print => texts::print(alloc, args, store),
+        Row::ListVector => vectors::of_list(alloc, args, store),
+        Row::VectorList => vectors::list(alloc, args, store),
+        Row::VectorLength => vectors::length(alloc, args, store),
+        Row::VectorNth => vectors::nth(alloc, args, store),
     }
 }
 
 /// What the built-in of a number gives, or Wrong where the table has no such number.
-pub fn built_in_at(
-    alloc: Global,
-    number: u16,
-    args: &[Value],
-    bindings: Bindings,
-) -> Result<Given, Memory>
-    ensures { IfOk result (λ g. g ≡ built_in_of_number number args.now bindings) }
+pub fn apply_at(alloc: Global, number: u16, args: &[Value], store: Store) -> Result<Applied, Memory>
+    ensures { IfOk result (λ g. g ≡ effect_of_number number args.now store) }
 {
     match row_at(number) {
-        Some(row) => built_in(alloc, row, args, bindings),
-        None => Ok(Given::Wrong),
+        Some(row) => apply(alloc, row, args, store),
+        None => Ok(Applied::Wrong),
     }
 }

@@ -1,22 +1,26 @@
 //! The numbers of the types that every program's table begins with: the built-in types, and then the two datatypes of the
 //! prelude that built-ins name.
 
+/// The integers.
 pub const INT: u32 = 0;
 
+/// The characters.
 pub const CHAR: u32 = 1;
 
+/// The texts.
 pub const STRING: u32 = 2;
 
-/// With one argument, the type of the items.
+/// The lists, with one argument: the type of the items.
 pub const LIST: u32 = 3;
 
-/// With one argument, the type of the content.
+/// The logical variables, with one argument: the type of what they hold.
 pub const LVAR: u32 = 4;
 
-/// With one argument, the type of the items.
+/// The vectors, with one argument: the type of the items.
 pub const VECTOR: u32 = 5;
 
+/// The truth values, a datatype of the prelude.
 pub const BOOL: u32 = 6;
 
-/// With one argument.
+/// The options, a datatype of the prelude, with one argument: the type of what is there.
 pub const OPTION: u32 = 7;

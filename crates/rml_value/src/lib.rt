@@ -11,7 +11,7 @@ mod value;
 
 pub use copying::{copy, copy_all};
 pub use equality::equal;
-pub use list::{items_of, list_of, list_onto};
+pub use list::{items_of, length_of, list_of, list_onto};
 pub use range::{GREATEST, LEAST, in_range};
 pub use value::{CONS, FALSE, NIL, NONE, SOME, TRUE, Value, Values};
 
@@ -88,18 +88,22 @@ mod tests {
     fn lists_are_read_back(rt: HostRuntime) -> Result<(), Fail> {
         let alloc = rt.alloc();
         let list = list_of(alloc, ints(alloc, &[4, 5])?)?;
+        // `[]` is 0 and `::` is 1
         let mut tail = ints(alloc, &[5])?;
-        tail.push(Value::Con(NIL, ints(alloc, &[])?))?;
+        tail.push(Value::Con(0, ints(alloc, &[])?))?;
         let mut whole = ints(alloc, &[4])?;
-        whole.push(Value::Con(CONS, tail))?;
-        assert!(rt; equal(&list, &Value::Con(CONS, whole)));
+        whole.push(Value::Con(1, tail))?;
+        assert!(rt; equal(&list, &Value::Con(1, whole)));
+        assert_eq!(rt; length_of(&list)?, Some(2));
         match items_of(alloc, &list)? {
             Some(items) => {
                 assert!(rt; equal(&Value::Tuple(items), &Value::Tuple(ints(alloc, &[4, 5])?)))
             }
             None => assert!(rt; false, "a list has items"),
         }
-        assert!(rt; items_of(alloc, &Value::Con(NONE, ints(alloc, &[])?))?.is_none());
+        let none = Value::Con(4, ints(alloc, &[])?);
+        assert!(rt; items_of(alloc, &none)?.is_none());
+        assert_eq!(rt; length_of(&none)?, None);
         Ok(())
     }
 }

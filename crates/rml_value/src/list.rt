@@ -1,6 +1,7 @@
 //! The lists of the language, as values of the constructors `[]` and `::`.
 
-ghost use Rattle.std.specs.Prelude.{◌≡◌, IfOk};
+ghost use Rattle.std.specs.Prelude.{◌≡◌, IfOk, length};
+ghost use Rattle.std.specs.Option.{option_map};
 ghost use Rattle.rml_value.specs.Lists.{onto, list_of as list_of_values, items_of as items_of_value};
 
 use crate::copying::copy;
@@ -46,6 +47,31 @@ pub fn items_of(alloc: Global, value: &Value) -> Result<Option<Values>, Memory>
                         return Ok(None);
                     }
                     all.push(copy(alloc, head)?)?;
+                    rest = tail;
+                }
+                _ => return Ok(None),
+            },
+            _ => return Ok(None),
+        }
+    }
+}
+
+/// How many items a list has, or None for a value that is no list. A count that no 64 bits hold is answered as want of
+/// memory; nothing is copied.
+pub fn length_of(value: &Value) -> Result<Option<u64>, Memory>
+    ensures { IfOk result (λ count. count ≡ option_map length (items_of_value value.now)) }
+{
+    let mut count: u64 = 0;
+    let mut rest = value;
+    loop {
+        match rest {
+            Value::Con(c, parts) => match parts.as_slice() {
+                [] => return Ok(if *c == NIL { Some(count) } else { None }),
+                [_, tail] => {
+                    if *c != CONS {
+                        return Ok(None);
+                    }
+                    count = count.checked_add(1).ok_or(Memory)?;
                     rest = tail;
                 }
                 _ => return Ok(None),

@@ -18,7 +18,7 @@ pub enum Value {
     Tuple(Values),
     /// A relation's number.
     Rel(u32),
-    /// A logical variable: the number of its entry in the list of bindings.
+    /// A logical variable: the number of its entry in the store.
     Cell(usize),
     Vector(Values),
 }

@@ -4,19 +4,19 @@ use rml_base::Bytes;
 use rml_value::{Value, Values};
 use sqlite_items::Items;
 
-/// An entry for each logical variable, None where it is unset. `Value::Cell` names an entry by its number.
-pub type Bindings = Items<Option<Value>>;
+/// The store: an entry for each logical variable, None where it is unset. `Value::Cell` names an entry by its number.
+pub type Store = Items<Option<Value>>;
 
-/// The results of a call, and the bindings after it.
+/// The results of a call, and the store after it.
 #[derive(Drop)]
 pub struct Answer {
     pub values: Values,
-    pub bindings: Bindings,
+    pub store: Store,
 }
 
 /// What a built-in gives of its arguments.
 #[derive(Drop)]
-pub enum Given {
+pub enum Applied {
     /// Results, and the text that it prints.
     Yes(Answer, Bytes),
     /// No answer.
