@@ -6,7 +6,7 @@ use Rattle.rml_resolved.specs.declared.trees.RGoal.{RGoal, map-RGoal, roll-RGoal
 use Rattle.rml_resolved.specs.declared.trees.RGoal.TheOpen.{RGoal-F}
 use Rattle.rml_resolved.specs.declared.trees.RGoal.TheVariants as goal
 use Rattle.rml_resolved.specs.declared.trees.RGoal.TheVariants.{rolls-Not}
-use Rattle.rml_resolved.specs.Binding.{Part, binds, all_bind, uses, all_use, callee_uses, can_use, use_then_bind, in_turn, goal_at, after_goal}
+use Rattle.rml_resolved.specs.Binding.{Part, binds, all_bind, uses, all_use, callee_uses, can_use, use_then_bind, parts_in_turn, bound_at, after_goal}
 
 -- the first so many of some numbers are these
 abbrev Front : List ℕ → List ℕ → Type 0
@@ -40,19 +40,19 @@ not-keeps : (a : List ℕ) (o : Option (List ℕ)) → FrontOf a (option_map (λ
 not-keeps a None = tt
 not-keeps a (Some b) = take-length a
 
-in_turn-keeps : (gs : List ((g : RGoal) × Keeps (after_goal g))) → Keeps (in_turn (map after_goal (map (λ e. e.0) gs)))
-in_turn-keeps [] bound = take-length bound
-in_turn-keeps (e ∷ gs) bound = then-keeps bound (after_goal e.0 bound) (in_turn (map after_goal (map (λ e. e.0) gs))) (e.1 bound) (in_turn-keeps gs)
+parts_in_turn-keeps : (gs : List ((g : RGoal) × Keeps (after_goal g))) → Keeps (parts_in_turn (map after_goal (map (λ e. e.0) gs)))
+parts_in_turn-keeps [] bound = take-length bound
+parts_in_turn-keeps (e ∷ gs) bound = then-keeps bound (after_goal e.0 bound) (parts_in_turn (map after_goal (map (λ e. e.0) gs))) (e.1 bound) (parts_in_turn-keeps gs)
 
-rolled : (y : RGoal-F RGoal) → Keeps (goal_at (map-RGoal RGoal Part after_goal y)) → Keeps (after_goal (roll-RGoal y))
-rolled y k = subst (λ (p : Part). Keeps p) (sym (fold-roll-RGoal Part goal_at y)) k
+rolled : (y : RGoal-F RGoal) → Keeps (bound_at (map-RGoal RGoal Part after_goal y)) → Keeps (after_goal (roll-RGoal y))
+rolled y k = subst (λ (p : Part). Keeps p) (sym (fold-roll-RGoal Part bound_at y)) k
 
 layer : (y : RGoal-F ((g : RGoal) × Keeps (after_goal g))) → Keeps (after_goal (roll-RGoal (map-RGoal ((g : RGoal) × Keeps (after_goal g)) RGoal (λ e. e.0) y)))
 layer (RGoal-F.Call f es ps) = rolled (RGoal-F.Call f es ps) (use_then_bind-keeps (callee_uses f ++ all_use es) (all_bind ps))
 layer (RGoal-F.Equal a b) = rolled (RGoal-F.Equal a b) (use_then_bind-keeps (uses a ++ uses b) [])
 layer (RGoal-F.Let p e) = rolled (RGoal-F.Let p e) (use_then_bind-keeps (uses e) (binds p))
 layer (RGoal-F.Not e) = rolled (RGoal-F.Not e.0) (λ bound. not-keeps bound (after_goal e.0 bound))
-layer (RGoal-F.All gs) = rolled (RGoal-F.All (map (λ e. e.0) gs)) (in_turn-keeps gs)
+layer (RGoal-F.All gs) = rolled (RGoal-F.All (map (λ e. e.0) gs)) (parts_in_turn-keeps gs)
 
 goal-keeps : (g : RGoal) → Keeps (after_goal g)
 goal-keeps = ind-RGoal (λ g. Keeps (after_goal g)) (λ x y is. subst (λ z. Keeps (after_goal (roll-RGoal z))) is (layer y))
@@ -64,6 +64,6 @@ front-kept g bound inside e = subst (λ (o : Option (List ℕ)). FrontOf bound o
 pub after-not : (g : RGoal) (bound inside : List ℕ) → Some inside ≡ after_goal g bound → after_goal (goal.Not g) bound ≡ Some (take (length bound) inside)
 after-not g bound inside e =
     ap (λ (x : RGoal). after_goal x bound) (sym (rolls-Not g))
-    ∙ ap (λ (p : Part). p bound) (fold-roll-RGoal Part goal_at (RGoal-F.Not g))
+    ∙ ap (λ (p : Part). p bound) (fold-roll-RGoal Part bound_at (RGoal-F.Not g))
     ∙ ap (option_map (λ (within : List ℕ). bound)) (sym e)
     ∙ ap Some (sym (front-kept g bound inside e))

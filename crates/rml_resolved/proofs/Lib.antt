@@ -3,5 +3,7 @@ pub mod Counts
 pub mod Apart
 pub mod Kept
 pub mod Facts
+pub mod Numbers
 pub mod Rounds
 pub mod Variables
+pub mod Words

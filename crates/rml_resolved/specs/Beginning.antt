@@ -1,17 +1,22 @@
 -- What every program's tables begin with: the built-in types and those of the prelude, their constructors, and the
--- prelude's relations.
-use Rattle.std.specs.Prelude.{ℕ, Bool, true, false, ◌&&◌, ◌==◌, nat_le, List, [], ◌∷◌, length, drop, Option, Some, None, slice_get, codes, is_none}
+-- prelude's relations with their declared types.
+use Rattle.std.specs.Prelude.{◌≡◌, ℕ, Bool, true, false, ◌&&◌, ◌==◌, nat_le, List, [], ◌∷◌, map, length, drop, Option, Some, None, IsSomeAnd, slice_get, codes, is_none}
 use Rattle.std.specs.List.{list_all}
 use Rattle.std.specs.Str.{bytes_eq}
+use Rattle.rml_types.specs.declared.scheme.Scheme.{Scheme}
 use Rattle.rml_types.specs.declared.tree.SchemeTree.{SchemeTree, out-SchemeTree}
 use Rattle.rml_types.specs.declared.tree.SchemeTree.TheOpen.{SchemeTree-F}
-use Rattle.rml_builtin.specs.declared.types.TheConstants.{LIST, BOOL, OPTION}
+use Rattle.rml_types.specs.declared.tree.SchemeTree.TheVariants as tree
+use Rattle.rml_builtin.specs.declared.types.TheConstants.{INT, LIST, BOOL, OPTION}
+use Rattle.rml_builtin.specs.Types.{a, int, bool, list}
 use Rattle.rml_resolved.specs.declared.beginning.Arguments.{Arguments}
 use Rattle.rml_resolved.specs.declared.beginning.Arguments.TheVariants.{Nothing, Parameter, HeadAndTail}
+use Rattle.rml_resolved.specs.declared.beginning.Word.{Word}
+use Rattle.rml_resolved.specs.declared.beginning.Word.TheVariants.{Item, ItemList, Integer, Truth}
 use Rattle.rml_resolved.specs.declared.tables.TypeDef.{TypeDef}
 use Rattle.rml_resolved.specs.declared.tables.ConDef.{ConDef}
 use Rattle.rml_resolved.specs.declared.tables.RelDef.{RelDef}
-use Rattle.rml_resolved.specs.Typing.{is_var, is_whole}
+use Rattle.rml_resolved.specs.Typing.{is_var, is_whole, is_constant}
 
 -- there are as many items as expected, or more, and each fits what is expected in its place
 abbrev pub begins : {A B : Type 0} → (A → B → Bool) → List A → List B → Bool
@@ -19,13 +24,13 @@ begins fits [] items = true
 begins fits (k ∷ ks) [] = false
 begins fits (k ∷ ks) (x ∷ xs) = fits k x && begins fits ks xs
 
-abbrev pub are_bytes : List ℕ → Option (List ℕ) → Bool
-are_bytes bytes None = false
-are_bytes bytes (Some held) = bytes_eq bytes held
+abbrev pub holds : List ℕ → Option (List ℕ) → Bool
+holds bytes None = false
+holds bytes (Some held) = bytes_eq bytes held
 
 -- a number names some bytes
 abbrev pub is_name : List (List ℕ) → List ℕ → ℕ → Bool
-is_name names bytes k = are_bytes bytes (slice_get names k)
+is_name names bytes k = holds bytes (slice_get names k)
 
 abbrev pub in_prelude : List (List ℕ) → ℕ → Bool
 in_prelude names k = is_name names (codes "rml") k
@@ -102,23 +107,59 @@ cons_begin names cons = begins (is_known_con names) known_cons cons && list_all 
 
 -- ---- relations
 
-abbrev pub is_known_relation : List (List ℕ) → List ℕ → RelDef → Bool
-is_known_relation names name r = in_prelude names r.«module» && is_name names name r.name
+-- the type that a word of the prelude's interface stands for
+abbrev pub type_of : Word → SchemeTree
+type_of Item = a
+type_of ItemList = list a
+type_of Integer = int
+type_of Truth = bool
 
--- the names of the prelude's public relations, and of its private one
-abbrev pub known_relations : List (List ℕ)
+abbrev pub is_word : Word → SchemeTree-F SchemeTree → Bool
+is_word Item = is_var 0
+is_word ItemList = is_whole LIST 1
+is_word Integer = is_constant INT
+is_word Truth = is_constant BOOL
+
+abbrev pub are_words : List Word → List SchemeTree → Bool
+are_words [] [] = true
+are_words [] (t ∷ ts) = false
+are_words (w ∷ ws) [] = false
+are_words (w ∷ ws) (t ∷ ts) = is_word w (out-SchemeTree t) && are_words ws ts
+
+-- a name, how many variables its type has, and the words for its inputs and outputs
+abbrev pub KnownRelation : Type 0
+KnownRelation = List ℕ × ℕ × List Word × List Word
+
+abbrev pub goes_by_words : List Word → List Word → SchemeTree-F SchemeTree → Bool
+goes_by_words inputs outputs (SchemeTree-F.Rel ins outs) = are_words inputs ins && are_words outputs outs
+goes_by_words inputs outputs _ = false
+
+-- the declared type is there, has so many variables, and goes by these words
+abbrev pub is_declared : ℕ → List Word → List Word → Option Scheme → Bool
+is_declared vars inputs outputs None = false
+is_declared vars inputs outputs (Some s) = (s.vars == vars) && goes_by_words inputs outputs (out-SchemeTree s.body)
+
+abbrev pub is_known_relation : List (List ℕ) → KnownRelation → RelDef → Bool
+is_known_relation names known r = in_prelude names r.«module» && is_name names known.0 r.name && is_declared known.1 known.2 known.3 r.scheme
+
+-- the prelude's public relations, and its private one
+abbrev pub known_relations : List KnownRelation
 known_relations =
-    codes "bool_and"
-    ∷ codes "bool_or"
-    ∷ codes "bool_not"
-    ∷ codes "list_append"
-    ∷ codes "list_reverse"
-    ∷ codes "list_length"
-    ∷ codes "list_member"
-    ∷ codes "list_nth"
-    ∷ codes "list_delete"
-    ∷ codes "list_turn"
+    (codes "bool_and", 0, Truth ∷ Truth ∷ [], Truth ∷ [])
+    ∷ (codes "bool_or", 0, Truth ∷ Truth ∷ [], Truth ∷ [])
+    ∷ (codes "bool_not", 0, Truth ∷ [], Truth ∷ [])
+    ∷ (codes "list_append", 1, ItemList ∷ ItemList ∷ [], ItemList ∷ [])
+    ∷ (codes "list_reverse", 1, ItemList ∷ [], ItemList ∷ [])
+    ∷ (codes "list_length", 1, ItemList ∷ [], Integer ∷ [])
+    ∷ (codes "list_member", 1, Item ∷ ItemList ∷ [], Truth ∷ [])
+    ∷ (codes "list_nth", 1, ItemList ∷ Integer ∷ [], Item ∷ [])
+    ∷ (codes "list_delete", 1, ItemList ∷ Integer ∷ [], ItemList ∷ [])
+    ∷ (codes "list_turn", 1, ItemList ∷ ItemList ∷ [], ItemList ∷ [])
     ∷ []
 
 unfoldable pub relations_begin : List (List ℕ) → List RelDef → Bool
 relations_begin names rels = begins (is_known_relation names) known_relations rels
+
+-- the declared type in the words of types: the law on the prelude's relations says that each has its own
+abbrev pub HasType : KnownRelation → RelDef → Type 0
+HasType known r = IsSomeAnd r.scheme (λ s. (s.vars ≡ known.1) × (s.body ≡ tree.Rel (map type_of known.2) (map type_of known.3)))

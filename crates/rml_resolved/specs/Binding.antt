@@ -1,8 +1,9 @@
 -- Where each variable of a rule is bound and where it is used. Each is bound, at one place alone, and used only after it: the
 -- head binds first, then the premises go in order, in a premise the callee and the expressions before the patterns, and then
 -- the results. A variable that is bound inside a `not` is used only up to the end of that `not`.
-use Rattle.std.specs.Prelude.{ℕ, Bool, true, false, ◌&&◌, ◌==◌, not, if◌then◌else◌, List, [], ◌∷◌, ◌++◌, map, length, Option, Some, None, option_map, option_and_then}
+use Rattle.std.specs.Prelude.{ℕ, Bool, true, false, ◌&&◌, ◌==◌, if◌then◌else◌, List, [], ◌∷◌, ◌++◌, map, length, Option, Some, None, option_map, option_and_then}
 use Rattle.std.specs.List.{list_all, list_any, concat}
+use Rattle.rml_resolved.specs.Differ.{all_differ}
 use Rattle.rml_resolved.specs.declared.tables.RelDef.{RelDef}
 use Rattle.rml_resolved.specs.declared.tables.RRule.{RRule}
 use Rattle.rml_resolved.specs.declared.trees.RPat.{RPat, fold-RPat}
@@ -52,8 +53,7 @@ rule_binds r = all_bind r.inputs ++ concat (map goal_binds r.goals)
 
 -- no number stands twice
 abbrev pub is_distinct : List ℕ → Bool
-is_distinct [] = true
-is_distinct (x ∷ xs) = not (contains x xs) && is_distinct xs
+is_distinct = all_differ (λ x y. x == y)
 
 -- none is bound at two places, and as many are bound as the rule has; where each is below `vars`, each of the rule is bound
 abbrev pub binds_once : RRule → Bool
@@ -94,22 +94,22 @@ Part = List ℕ → Option (List ℕ)
 abbrev pub use_then_bind : List ℕ → List ℕ → Part
 use_then_bind xs ys bound = if can_use xs bound then Some (bound ++ ys) else None
 
-abbrev pub in_turn : List Part → Part
-in_turn [] bound = Some bound
-in_turn (p ∷ ps) bound = option_and_then (in_turn ps) (p bound)
+abbrev pub parts_in_turn : List Part → Part
+parts_in_turn [] bound = Some bound
+parts_in_turn (p ∷ ps) bound = option_and_then (parts_in_turn ps) (p bound)
 
-abbrev pub goal_at : RGoal-F Part → Part
-goal_at (RGoal-F.Call f es ps) = use_then_bind (callee_uses f ++ all_use es) (all_bind ps)
-goal_at (RGoal-F.Equal a b) = use_then_bind (uses a ++ uses b) []
-goal_at (RGoal-F.Let p e) = use_then_bind (uses e) (binds p)
-goal_at (RGoal-F.Not g) = λ bound. option_map (λ inside. bound) (g bound)
-goal_at (RGoal-F.All gs) = in_turn gs
+abbrev pub bound_at : RGoal-F Part → Part
+bound_at (RGoal-F.Call f es ps) = use_then_bind (callee_uses f ++ all_use es) (all_bind ps)
+bound_at (RGoal-F.Equal a b) = use_then_bind (uses a ++ uses b) []
+bound_at (RGoal-F.Let p e) = use_then_bind (uses e) (binds p)
+bound_at (RGoal-F.Not g) = λ bound. option_map (λ inside. bound) (g bound)
+bound_at (RGoal-F.All gs) = parts_in_turn gs
 
 abbrev pub after_goal : RGoal → Part
-after_goal = fold-RGoal Part goal_at
+after_goal = fold-RGoal Part bound_at
 
 abbrev pub after_goals : List RGoal → Part
-after_goals gs = in_turn (map after_goal gs)
+after_goals gs = parts_in_turn (map after_goal gs)
 
 -- what is bound before the results
 abbrev pub before_results : RRule → Option (List ℕ)

@@ -1,5 +1,5 @@
 -- The numbers in a program lead into its tables, constructors have as many arguments as they are declared with, integers
--- are in range, and a chain of `::` has at least two items.
+-- are in range, characters are bytes, and a chain of `::` has at least two items.
 use Rattle.std.specs.Prelude.{ℕ, Bool, true, false, ◌&&◌, ◌==◌, nat_lt, nat_le, List, map, length, Option, Some, None, slice_get}
 use Rattle.std.specs.List.{list_all}
 use Rattle.rml_syntax.specs.declared.token.Lit.{Lit}
@@ -25,7 +25,7 @@ use Rattle.rml_resolved.specs.Typing.{type_fits, scheme_fits}
 
 abbrev pub lit_fits : Counts → Lit → Bool
 lit_fits n (lit.Int i) = is_integer i
-lit_fits n (lit.Char c) = true
+lit_fits n (lit.Char c) = nat_lt c 256
 lit_fits n (lit.Text name) = nat_lt name n.names
 
 abbrev pub has_arity : ℕ → Option ConDef → Bool

@@ -1,3 +1,4 @@
+pub mod Differ
 pub mod Fits
 pub mod Binding
 pub mod Bound
@@ -6,3 +7,4 @@ pub mod Circles
 pub mod Typing
 pub mod Beginning
 pub mod Whole
+pub mod Facts

@@ -1,6 +1,7 @@
 -- How large rules, vals and programs are.
-use Rattle.std.specs.Prelude.{ℕ, Bool, ◌||◌, ◌&&◌, ◌+◌, ◌^◌, nat_lt, nat_le, List, map, fold, max, sum, sum_by}
+use Rattle.std.specs.Prelude.{ℕ, Bool, ◌||◌, ◌&&◌, ◌+◌, nat_lt, nat_le, List, map, fold, max, sum, sum_by}
 use Rattle.std.specs.List.{list_all, concat}
+use Rattle.rml_resolved.specs.declared.limits.TheConstants.{FEW_PARTS, PRELUDE_TOKENS, WEIGHT}
 use Rattle.rml_resolved.specs.declared.tables.ValDef.{ValDef}
 use Rattle.rml_resolved.specs.declared.tables.RelDef.{RelDef}
 use Rattle.rml_resolved.specs.declared.tables.RRule.{RRule}
@@ -48,9 +49,9 @@ goal_size = fold-RGoal ℕ goal_at
 abbrev pub rule_size : RRule → ℕ
 rule_size r = sum_by pattern_size r.inputs + sum_by goal_size r.goals + sum_by exp_size r.results
 
--- a rule has at least one token, and no more parts than tokens or at most eight
+-- a rule has at least one token, and no more parts than tokens or at most `FEW_PARTS`
 abbrev pub rule_is_small : RRule → Bool
-rule_is_small r = nat_lt 0 r.tokens && (nat_le (rule_size r) r.tokens || nat_le (rule_size r) 8)
+rule_is_small r = nat_lt 0 r.tokens && (nat_le (rule_size r) r.tokens || nat_le (rule_size r) FEW_PARTS)
 
 abbrev pub relation_is_small : RelDef → Bool
 relation_is_small r = list_all rule_is_small r.rules
@@ -65,9 +66,9 @@ tokens_of r = map (λ rule. rule.tokens) r.rules
 unfoldable pub longest : List RelDef → ℕ
 longest rels = fold max 0 (concat (map tokens_of rels))
 
--- some rule is as long as the longest of the prelude's, which has 40 tokens
+-- some rule is as long as the longest of the prelude's
 abbrev pub has_long_rule : List RelDef → Bool
-has_long_rule rels = nat_le 40 (longest rels)
+has_long_rule rels = nat_le PRELUDE_TOKENS (longest rels)
 
 abbrev pub val_size : ValDef → ℕ
 val_size v = exp_size v.value
@@ -77,4 +78,4 @@ abbrev pub weight : List ValDef → List RelDef → ℕ
 weight vals rels = sum_by relation_tokens rels + sum_by val_size vals
 
 abbrev pub is_light : List ValDef → List RelDef → Bool
-is_light vals rels = nat_lt (weight vals rels) (2 ^ 27)
+is_light vals rels = nat_lt (weight vals rels) WEIGHT

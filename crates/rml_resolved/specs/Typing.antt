@@ -1,11 +1,12 @@
 -- The types that a program's tables name: type names have as many arguments as they are declared with, and the scheme of a
 -- constructor is the type from its arguments to its datatype, over the datatype's parameters.
-use Rattle.std.specs.Prelude.{ℕ, Bool, true, false, ◌&&◌, ◌==◌, ◌+◌, ◌^◌, nat_lt, List, [], ◌∷◌, length, Option, Some, None, slice_get, is_none}
+use Rattle.std.specs.Prelude.{ℕ, Bool, true, false, ◌&&◌, ◌==◌, ◌+◌, nat_lt, List, [], ◌∷◌, length, Option, Some, None, slice_get, is_none}
 use Rattle.rml_types.specs.Schemes.{every}
 use Rattle.rml_types.specs.declared.scheme.Scheme.{Scheme}
 use Rattle.rml_types.specs.declared.tree.SchemeTree.{SchemeTree, out-SchemeTree, fold-SchemeTree}
 use Rattle.rml_types.specs.declared.tree.SchemeTree.TheOpen.{SchemeTree-F}
 use Rattle.rml_builtin.specs.declared.types.TheConstants.{INT, STRING, LIST}
+use Rattle.rml_resolved.specs.declared.limits.TheConstants.{CON_ARGUMENTS}
 use Rattle.rml_resolved.specs.declared.tables.TypeDef.{TypeDef}
 use Rattle.rml_resolved.specs.declared.tables.ConDef.{ConDef}
 use Rattle.rml_resolved.specs.declared.tables.RelDef.{RelDef}
@@ -76,10 +77,10 @@ abbrev pub makes_whole : ℕ → ℕ → ℕ → SchemeTree-F SchemeTree → Boo
 makes_whole c vars arity (SchemeTree-F.Rel ins outs) = (arity == length ins) && gives_whole c vars outs
 makes_whole c vars arity _ = false
 
--- a constructor has a name, a datatype, fewer than 2 ^ 20 arguments and the type that makes it one
+-- a constructor has a name, a datatype, fewer than `CON_ARGUMENTS` arguments and the type that makes it one
 abbrev pub con_def_fits : ℕ → List TypeDef → ConDef → Bool
 con_def_fits names types d =
-    nat_lt d.name names && is_datatype types d.of && nat_lt d.arity (2 ^ 20) && type_fits types d.scheme.body
+    nat_lt d.name names && is_datatype types d.of && nat_lt d.arity CON_ARGUMENTS && type_fits types d.scheme.body
     && makes_whole d.of d.scheme.vars d.arity (out-SchemeTree d.scheme.body)
 
 -- ---- the relation `main`: from a list of texts to nothing, or to an integer; its type has no variables

@@ -3,13 +3,13 @@
 ghost use Rattle.std.specs.Prelude.{◌≡◌, ◌&&◌, ◌==◌, map, drop, length};
 ghost use Rattle.std.specs.List.{list_all};
 ghost use Rattle.rml_types.specs.declared.tree.SchemeTree.{out-SchemeTree};
-ghost use Rattle.rml_resolved.specs.Beginning.{begins, is_name, in_prelude, is_known_type, known_types, types_begin, no_arguments, one_argument, head_and_tail, are_arguments, is_known_con, known_cons, is_further, cons_begin, is_known_relation, known_relations, relations_begin};
+ghost use Rattle.rml_resolved.specs.Beginning.{begins, is_name, in_prelude, is_known_type, known_types, types_begin, no_arguments, one_argument, head_and_tail, are_arguments, is_known_con, known_cons, is_further, cons_begin, is_word, are_words, goes_by_words, is_declared, is_known_relation, known_relations, relations_begin};
 
 use crate::tables::{ConDef, RelDef, TypeDef};
-use crate::typing::{is_over_variables, is_variable};
+use crate::typing::{is_over_variables, is_plain, is_variable};
 use rml_base::Bytes;
-use rml_builtin::types::{BOOL, LIST, OPTION};
-use rml_types::SchemeTree;
+use rml_builtin::types::{BOOL, INT, LIST, OPTION};
+use rml_types::{Scheme, SchemeTree};
 use sqlite_items::at;
 
 fn names(names: &[Bytes], bytes: &str, k: u32) -> bool
@@ -158,39 +158,134 @@ pub fn do_cons_begin(all: &[Bytes], cons: &[ConDef]) -> bool
     begin_cons(all, &CONS, cons) && are_further(cons)
 }
 
-fn is_relation(all: &[Bytes], name: &str, rel: &RelDef) -> bool
-    ensures { result ≡ is_known_relation all.now name.now rel.now }
-{
-    names(all, "rml", rel.module) && names(all, name, rel.name)
+/// The words of the prelude's interface, of which the types of its relations are made.
+#[derive(Clone, Copy, Debug, PartialEq, Eq)]
+pub enum Word {
+    /// The first variable of the type.
+    Item,
+    /// A list of it.
+    ItemList,
+    Integer,
+    Truth,
 }
 
-/// The names of the prelude's public relations, and of its private one.
-const RELATIONS: [&str; 10] = [
-    "bool_and",
-    "bool_or",
-    "bool_not",
-    "list_append",
-    "list_reverse",
-    "list_length",
-    "list_member",
-    "list_nth",
-    "list_delete",
-    "list_turn",
+fn is_of_word(word: Word, tree: &SchemeTree) -> bool
+    ensures { result ≡ is_word word (out-SchemeTree tree.now) }
+{
+    match word {
+        Word::Item => is_variable(0, tree),
+        Word::ItemList => is_over_variables(LIST, 1, tree),
+        Word::Integer => is_plain(INT, tree),
+        Word::Truth => is_plain(BOOL, tree),
+    }
+}
+
+fn are_of_words(words: &[Word], trees: &[SchemeTree]) -> bool
+    ensures { result ≡ are_words words.now trees.now }
+{
+    match (words, trees) {
+        ([], []) => true,
+        ([word, words @ ..], [tree, trees @ ..]) => {
+            is_of_word(*word, tree) && are_of_words(words, trees)
+        }
+        ([], [_, ..]) => false,
+        ([_, ..], []) => false,
+    }
+}
+
+fn does_go_by_words(inputs: &[Word], outputs: &[Word], tree: &SchemeTree) -> bool
+    ensures { result ≡ goes_by_words inputs.now outputs.now (out-SchemeTree tree.now) }
+{
+    match tree {
+        SchemeTree::Rel(ins, outs) => {
+            are_of_words(inputs, ins.as_slice()) && are_of_words(outputs, outs.as_slice())
+        }
+        _ => false,
+    }
+}
+
+fn is_declared_as(vars: u32, inputs: &[Word], outputs: &[Word], scheme: &Option<Scheme>) -> bool
+    ensures { result ≡ is_declared vars inputs.now outputs.now scheme.now }
+{
+    match scheme {
+        Some(scheme) => scheme.vars == vars && does_go_by_words(inputs, outputs, &scheme.body),
+        None => false,
+    }
+}
+
+fn is_relation(
+    all: &[Bytes],
+    name: &str,
+    vars: u32,
+    inputs: &[Word],
+    outputs: &[Word],
+    rel: &RelDef,
+) -> bool
+    ensures { result ≡ is_known_relation all.now (name.now, vars, inputs.now, outputs.now) rel.now }
+{
+    names(all, "rml", rel.module)
+        && names(all, name, rel.name)
+        && is_declared_as(vars, inputs, outputs, &rel.scheme)
+}
+
+/// The name of each relation of the prelude, the private one last, how many variables its type has, and the words for its
+/// inputs and outputs.
+const RELATIONS: [(&str, u32, &[Word], &[Word]); 10] = [
+    ("bool_and", 0, &[Word::Truth, Word::Truth], &[Word::Truth]),
+    ("bool_or", 0, &[Word::Truth, Word::Truth], &[Word::Truth]),
+    ("bool_not", 0, &[Word::Truth], &[Word::Truth]),
+    (
+        "list_append",
+        1,
+        &[Word::ItemList, Word::ItemList],
+        &[Word::ItemList],
+    ),
+    ("list_reverse", 1, &[Word::ItemList], &[Word::ItemList]),
+    ("list_length", 1, &[Word::ItemList], &[Word::Integer]),
+    (
+        "list_member",
+        1,
+        &[Word::Item, Word::ItemList],
+        &[Word::Truth],
+    ),
+    (
+        "list_nth",
+        1,
+        &[Word::ItemList, Word::Integer],
+        &[Word::Item],
+    ),
+    (
+        "list_delete",
+        1,
+        &[Word::ItemList, Word::Integer],
+        &[Word::ItemList],
+    ),
+    (
+        "list_turn",
+        1,
+        &[Word::ItemList, Word::ItemList],
+        &[Word::ItemList],
+    ),
 ];
 
-fn begin_relations(all: &[Bytes], expected: &[&str], rels: &[RelDef]) -> bool
-    ensures { result ≡ begins (is_known_relation all.now) (map (λ k. k.now) expected.now) rels.now }
+fn begin_relations(
+    all: &[Bytes],
+    expected: &[(&str, u32, &[Word], &[Word])],
+    rels: &[RelDef],
+) -> bool
+    ensures { result ≡ begins (is_known_relation all.now) (map (λ k. (k.0.now, k.1, k.2.now, k.3.now)) expected.now) rels.now }
 {
     match (expected, rels) {
         ([], _) => true,
-        ([name, expected @ ..], [rel, rels @ ..]) => {
-            is_relation(all, *name, rel) && begin_relations(all, expected, rels)
+        ([(name, vars, inputs, outputs), expected @ ..], [rel, rels @ ..]) => {
+            is_relation(all, *name, *vars, *inputs, *outputs, rel)
+                && begin_relations(all, expected, rels)
         }
         ([_, ..], []) => false,
     }
 }
 
-/// Whether the relations of the prelude come first.
+/// Whether the relations of the prelude come first, each with its declared type.
 #[tactic(auto, unfolding(crate::specs::Beginning::relations_begin))]
 pub fn do_relations_begin(all: &[Bytes], rels: &[RelDef]) -> bool
     ensures { result ≡ relations_begin all.now rels.now }

@@ -4,7 +4,7 @@ ghost use Rattle.std.specs.Prelude.{◌≡◌, ◌++◌, IfOk, [], map};
 ghost use Rattle.std.specs.List.{list_all, concat};
 ghost use Rattle.rml_resolved.specs.Binding.{binds, all_bind, goal_binds, rule_binds, is_distinct, binds_once, relation_binds_once, uses, all_use, callee_uses, can_use as can_use_of, use_then_bind, after_goal as after_goal_of, after_goals as after_goals_of, before_results, uses_bound, relation_uses_bound};
 
-use crate::bound::Bound;
+use crate::bound::BoundVars;
 use crate::tables::{RRule, RelDef};
 use crate::trees::{Callee, RExp, RGoal, RPat};
 use rml_base::Memory;
@@ -13,7 +13,7 @@ use std::alloc::Global;
 
 /// The variables of `all`, and then those that a pattern binds, from left to right.
 #[cycle(patterns)]
-fn with_bound(pattern: &RPat, all: Bound) -> Result<Bound, Memory>
+fn with_bound(pattern: &RPat, all: BoundVars) -> Result<BoundVars, Memory>
     ensures { IfOk result (λ r. r ≡ all ++ binds pattern.now) }
 {
     match pattern {
@@ -29,7 +29,7 @@ fn with_bound(pattern: &RPat, all: Bound) -> Result<Bound, Memory>
 }
 
 #[cycle(patterns)]
-fn with_all_bound(patterns: &[RPat], all: Bound) -> Result<Bound, Memory>
+fn with_all_bound(patterns: &[RPat], all: BoundVars) -> Result<BoundVars, Memory>
     ensures { IfOk result (λ r. r ≡ all ++ all_bind patterns.now) }
 {
     let mut all = all;
@@ -41,7 +41,7 @@ fn with_all_bound(patterns: &[RPat], all: Bound) -> Result<Bound, Memory>
 
 /// The variables of `all`, and then those that a goal binds.
 #[cycle(bindings)]
-fn with_goal_bound(goal: &RGoal, all: Bound) -> Result<Bound, Memory>
+fn with_goal_bound(goal: &RGoal, all: BoundVars) -> Result<BoundVars, Memory>
     ensures { IfOk result (λ r. r ≡ all ++ goal_binds goal.now) }
 {
     match goal {
@@ -54,7 +54,7 @@ fn with_goal_bound(goal: &RGoal, all: Bound) -> Result<Bound, Memory>
 }
 
 #[cycle(bindings)]
-fn with_goals_bound(goals: &[RGoal], all: Bound) -> Result<Bound, Memory>
+fn with_goals_bound(goals: &[RGoal], all: BoundVars) -> Result<BoundVars, Memory>
     ensures { IfOk result (λ r. r ≡ all ++ concat (map goal_binds goals.now)) }
 {
     let mut all = all;
@@ -64,17 +64,17 @@ fn with_goals_bound(goals: &[RGoal], all: Bound) -> Result<Bound, Memory>
     Ok(all)
 }
 
-fn variables_of(alloc: Global, rule: &RRule) -> Result<Bound, Memory>
+fn variables_of(alloc: Global, rule: &RRule) -> Result<BoundVars, Memory>
     ensures { IfOk result (λ r. r ≡ rule_binds rule.now) }
 {
-    let in_head = with_all_bound(rule.inputs.as_slice(), Bound::new(alloc))?;
+    let in_head = with_all_bound(rule.inputs.as_slice(), BoundVars::new(alloc))?;
     with_goals_bound(rule.goals.as_slice(), in_head)
 }
 
 fn are_distinct(alloc: Global, xs: &[u32]) -> Result<bool, Memory>
     ensures { IfOk result (λ b. b ≡ is_distinct xs.now) }
 {
-    let mut seen = Bound::new(alloc);
+    let mut seen = BoundVars::new(alloc);
     for x in xs {
         if seen.has(*x) {
             return Ok(false);
@@ -159,7 +159,7 @@ fn callee_variables(alloc: Global, callee: Callee) -> Result<Items<u32>, Memory>
     }
 }
 
-fn can_use(xs: &[u32], bound: &Bound) -> bool
+fn can_use(xs: &[u32], bound: &BoundVars) -> bool
     ensures { result ≡ can_use_of xs.now bound.now }
 {
     xs.iter().all(|x| bound.has(*x))
@@ -170,8 +170,8 @@ fn after_call(
     callee: Callee,
     exps: &[RExp],
     patterns: &[RPat],
-    bound: Bound,
-) -> Result<Option<Bound>, Memory>
+    bound: BoundVars,
+) -> Result<Option<BoundVars>, Memory>
     ensures { IfOk result (λ b. b ≡ use_then_bind (callee_uses callee ++ all_use exps.now) (all_bind patterns.now) bound) }
 {
     let used = with_all_used(exps, callee_variables(alloc, callee)?)?;
@@ -182,7 +182,12 @@ fn after_call(
     }
 }
 
-fn after_equal(alloc: Global, a: &RExp, b: &RExp, bound: Bound) -> Result<Option<Bound>, Memory>
+fn after_equal(
+    alloc: Global,
+    a: &RExp,
+    b: &RExp,
+    bound: BoundVars,
+) -> Result<Option<BoundVars>, Memory>
     ensures { IfOk result (λ r. r ≡ use_then_bind (uses a.now ++ uses b.now) [] bound) }
 {
     let used = with_used(b, with_used(a, Items::new(alloc))?)?;
@@ -193,7 +198,12 @@ fn after_equal(alloc: Global, a: &RExp, b: &RExp, bound: Bound) -> Result<Option
     }
 }
 
-fn after_let(alloc: Global, p: &RPat, e: &RExp, bound: Bound) -> Result<Option<Bound>, Memory>
+fn after_let(
+    alloc: Global,
+    p: &RPat,
+    e: &RExp,
+    bound: BoundVars,
+) -> Result<Option<BoundVars>, Memory>
     ensures { IfOk result (λ r. r ≡ use_then_bind (uses e.now) (binds p.now) bound) }
 {
     let used = with_used(e, Items::new(alloc))?;
@@ -206,7 +216,7 @@ fn after_let(alloc: Global, p: &RPat, e: &RExp, bound: Bound) -> Result<Option<B
 
 /// What is bound after a goal, or None where it uses what is not.
 #[cycle(goals)]
-fn after_goal(alloc: Global, goal: &RGoal, bound: Bound) -> Result<Option<Bound>, Memory>
+fn after_goal(alloc: Global, goal: &RGoal, bound: BoundVars) -> Result<Option<BoundVars>, Memory>
     ensures { IfOk result (λ b. b ≡ after_goal_of goal.now bound) }
 {
     match goal {
@@ -227,7 +237,11 @@ fn after_goal(alloc: Global, goal: &RGoal, bound: Bound) -> Result<Option<Bound>
 }
 
 #[cycle(goals)]
-fn after_goals(alloc: Global, goals: &[RGoal], bound: Bound) -> Result<Option<Bound>, Memory>
+fn after_goals(
+    alloc: Global,
+    goals: &[RGoal],
+    bound: BoundVars,
+) -> Result<Option<BoundVars>, Memory>
     ensures { IfOk result (λ b. b ≡ after_goals_of goals.now bound) }
 {
     let mut bound = bound;
@@ -240,10 +254,10 @@ fn after_goals(alloc: Global, goals: &[RGoal], bound: Bound) -> Result<Option<Bo
     Ok(Some(bound))
 }
 
-fn bound_before_results(alloc: Global, rule: &RRule) -> Result<Option<Bound>, Memory>
+fn bound_before_results(alloc: Global, rule: &RRule) -> Result<Option<BoundVars>, Memory>
     ensures { IfOk result (λ b. b ≡ before_results rule.now) }
 {
-    let in_head = with_all_bound(rule.inputs.as_slice(), Bound::new(alloc))?;
+    let in_head = with_all_bound(rule.inputs.as_slice(), BoundVars::new(alloc))?;
     after_goals(alloc, rule.goals.as_slice(), in_head)
 }
 

@@ -9,13 +9,13 @@ use std::marker::Model;
 
 /// Variables in the order in which they were bound.
 #[derive(Drop)]
-pub struct Bound {
+pub struct BoundVars {
     order: Vec<u32>,
     /// How often each variable stands in `order`; one that is not there may have no count.
     counts: Vec<usize>,
 }
 
-impl Model for Bound {
+impl Model for BoundVars {
     ghost use Rattle.std.specs.Prelude.{List, ℕ};
     ghost use Rattle.rml_resolved.specs.Bound.{IsCounted};
 
@@ -38,11 +38,11 @@ fn with_place(counts: Vec<usize>, x: usize) -> Result<Vec<usize>, Memory>
     Ok(all)
 }
 
-impl Bound {
-    pub fn new(alloc: Global) -> Bound
+impl BoundVars {
+    pub fn new(alloc: Global) -> BoundVars
         ensures { result ≡ [] }
     {
-        Bound {
+        BoundVars {
             order: Vec::new(alloc),
             counts: Vec::new(alloc),
         }
@@ -70,22 +70,22 @@ impl Bound {
     }
 
     /// With one more variable, which may be bound already.
-    pub fn with(self, x: u32) -> Result<Bound, Memory>
+    pub fn with(self, x: u32) -> Result<BoundVars, Memory>
         ensures { IfOk result (λ b. b ≡ self ++ x ∷ []) }
     {
-        let Bound { order, counts } = self;
+        let BoundVars { order, counts } = self;
         let mut order = order;
         let mut counts = with_place(counts, x as usize)?;
         order.push(x)?;
         counts[x as usize] += 1;
-        Ok(Bound { order, counts })
+        Ok(BoundVars { order, counts })
     }
 
     /// The first so many of them.
-    pub fn cut(self, count: usize) -> Bound
+    pub fn cut(self, count: usize) -> BoundVars
         ensures { result ≡ take count self }
     {
-        let Bound { order, counts } = self;
+        let BoundVars { order, counts } = self;
         let mut order = order;
         let mut counts = counts;
         while count < order.len() {
@@ -93,6 +93,6 @@ impl Bound {
                 counts[x as usize] -= 1;
             }
         }
-        Bound { order, counts }
+        BoundVars { order, counts }
     }
 }

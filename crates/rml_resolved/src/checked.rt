@@ -10,6 +10,7 @@ use crate::beginning::{do_cons_begin, do_relations_begin, do_types_begin};
 use crate::binding::{are_bound_once, are_used_after};
 use crate::circles::{do_types_end, do_vals_end};
 use crate::fits::{Counts, is_relation, is_val};
+use crate::names::{are_byte_strings, do_names_differ};
 use crate::program::Program;
 use crate::size::{are_light, are_rules_small, is_one_long};
 use crate::tables::{ConDef, RelDef, TypeDef, ValDef};
@@ -61,7 +62,17 @@ fn are_all_small(rels: &[RelDef]) -> bool
 }
 
 impl Parts {
-    ghost use Rattle.rml_resolved.specs.Whole.{parts_begin, parts_fit, no_circles, variables_hold, sizes_hold, rules_and_main_hold, is_program};
+    ghost use Rattle.rml_resolved.specs.Whole.{names_hold, parts_begin, parts_fit, no_circles, variables_hold, sizes_hold, rules_and_main_hold, is_program};
+
+    fn do_names_hold(&self, alloc: Global) -> Result<bool, Memory>
+        ensures { IfOk result (λ b. b ≡ names_hold self.now) }
+    {
+        if are_byte_strings(self.names.as_slice()) {
+            do_names_differ(alloc, self.names.as_slice())
+        } else {
+            Ok(false)
+        }
+    }
 
     fn do_begin(&self) -> bool
         ensures { result ≡ parts_begin self.now }
@@ -127,7 +138,11 @@ impl Parts {
     fn is_whole(&self, alloc: Global) -> Result<bool, Memory>
         ensures { IfOk result (λ b. b ≡ is_program self.now) }
     {
-        if self.do_begin() && self.do_fit() && self.has_no_circles(alloc)? {
+        if self.do_names_hold(alloc)?
+            && self.do_begin()
+            && self.do_fit()
+            && self.has_no_circles(alloc)?
+        {
             self.do_rules_and_main_hold(alloc)
         } else {
             Ok(false)
@@ -136,18 +151,14 @@ impl Parts {
 }
 
 impl Program {
+    ghost use Rattle.rml_resolved.specs.Facts.{KeepsFacts, IsMadeOf};
     ghost use Rattle.rml_resolved.specs.Whole.{is_program};
 
-    /// The program of these tables, where they fit. It is None exactly where one of the facts that a program keeps does
-    /// not hold.
-    pub fn checked(alloc: Global, parts: Parts) -> Result<Option<Program>, Memory>
-        ensures there { IfOk result (λ p. IsSome p ↔ IsTrue (is_program parts)) }
-        ensures same { IfOk result (λ o. IfSome o (λ p. (p.names ≡ parts.names) × (p.types ≡ parts.types) × (p.cons ≡ parts.cons)
-            × (p.vals ≡ parts.vals) × (p.rels ≡ parts.rels) × (p.main ≡ parts.main) × (p.gives ≡ parts.gives))) }
+    /// The program of tables that are known to keep each fact. It takes no memory and tests nothing.
+    pub fn of(parts: Parts) -> Program
+        requires { KeepsFacts parts }
+        ensures { IsMadeOf parts result }
     {
-        if !parts.is_whole(alloc)? {
-            return Ok(None);
-        }
         let Parts {
             names,
             types,
@@ -157,7 +168,7 @@ impl Program {
             main,
             gives,
         } = parts;
-        Ok(Some(Program {
+        Program {
             names,
             types,
             cons,
@@ -165,6 +176,19 @@ impl Program {
             rels,
             main,
             gives,
-        }))
+        }
+    }
+
+    /// The program of these tables, where they fit. It is None exactly where one of the facts that a program keeps does
+    /// not hold.
+    pub fn checked(alloc: Global, parts: Parts) -> Result<Option<Program>, Memory>
+        ensures there { IfOk result (λ p. IsSome p ↔ IsTrue (is_program parts)) }
+        ensures same { IfOk result (λ o. IfSome o (IsMadeOf parts)) }
+    {
+        if parts.is_whole(alloc)? {
+            Ok(Some(Program::of(parts)))
+        } else {
+            Ok(None)
+        }
     }
 }

@@ -1,5 +1,5 @@
 //! Whether the numbers of trees lead into the tables, constructors have as many arguments as they are declared with,
-//! integers are in range and chains of `::` have two items.
+//! integers are in range, characters are bytes and chains of `::` have two items.
 
 ghost use Rattle.std.specs.Prelude.{◌≡◌};
 ghost use Rattle.std.specs.List.{list_all};

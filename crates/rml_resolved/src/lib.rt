@@ -10,6 +10,8 @@ mod checked;
 mod circles;
 mod fits;
 pub mod laws;
+pub mod limits;
+mod names;
 mod program;
 mod size;
 mod tables;

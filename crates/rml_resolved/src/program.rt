@@ -2,9 +2,12 @@
 
 ghost use Rattle.std.specs.Prelude.{IsTrue, length, map, slice_get};
 ghost use Rattle.std.specs.List.{list_all};
+ghost use Rattle.rml_base.specs.Bytes.{are_bytes};
+ghost use Rattle.rml_base.specs.Numbering.{same};
 ghost use Rattle.rml_resolved.specs.Beginning.{types_begin, cons_begin, relations_begin};
 ghost use Rattle.rml_resolved.specs.Binding.{relation_binds_once, relation_uses_bound};
 ghost use Rattle.rml_resolved.specs.Circles.{has_no_circle, type_needs, val_needs};
+ghost use Rattle.rml_resolved.specs.Differ.{all_differ};
 ghost use Rattle.rml_resolved.specs.Fits.{counts_of, relation_fits, val_fits};
 ghost use Rattle.rml_resolved.specs.Size.{relation_is_small, has_long_rule, is_light};
 ghost use Rattle.rml_resolved.specs.Typing.{type_def_fits, con_def_fits, is_main};
@@ -26,28 +29,32 @@ pub struct Program {
     pub main: u32,
     /// Whether `main` gives an integer.
     pub gives: bool,
-    // the tables begin with the built-in types, those of the prelude, their constructors and the prelude's relations
-    ghost types_first: { IsTrue (types_begin names types) },
-    ghost cons_first: { IsTrue (cons_begin names cons) },
-    ghost relations_first: { IsTrue (relations_begin names rels) },
-    // numbers lead into their tables, arguments are as many as declared, integers are in range, chains have two items,
-    // a constructor belongs to a datatype and has fewer than 2 ^ 20 arguments, a val has no variable, a relation has a rule and,
-    // where its type is declared, a relation type
-    ghost types_fit: { IsTrue (list_all (type_def_fits (length names) types) types) },
-    ghost cons_fit: { IsTrue (list_all (con_def_fits (length names) types) cons) },
-    ghost vals_fit: { IsTrue (list_all (val_fits (counts_of names vals rels) types cons) vals) },
-    ghost relations_fit: { IsTrue (list_all (relation_fits (counts_of names vals rels) types cons) rels) },
+    // each name is a byte string, and no two numbers name the same bytes
+    pub ghost names_are_bytes: { IsTrue (list_all are_bytes names) },
+    pub ghost names_differ: { IsTrue (all_differ same names) },
+    // the tables begin with the built-in types, those of the prelude, their constructors and the prelude's relations, each of
+    // its declared type
+    pub ghost types_first: { IsTrue (types_begin names types) },
+    pub ghost cons_first: { IsTrue (cons_begin names cons) },
+    pub ghost relations_first: { IsTrue (relations_begin names rels) },
+    // numbers lead into their tables, arguments are as many as declared, integers are in range, characters are bytes, chains
+    // have two items, a constructor belongs to a datatype and has fewer than `CON_ARGUMENTS` arguments, a val has no variable,
+    // a relation has a rule and, where its type is declared, a relation type
+    pub ghost types_fit: { IsTrue (list_all (type_def_fits (length names) types) types) },
+    pub ghost cons_fit: { IsTrue (list_all (con_def_fits (length names) types) cons) },
+    pub ghost vals_fit: { IsTrue (list_all (val_fits (counts_of names vals rels) types cons) vals) },
+    pub ghost relations_fit: { IsTrue (list_all (relation_fits (counts_of names vals rels) types cons) rels) },
     // no type stands for one that it is part of, and no val needs itself (see the laws)
-    ghost types_end: { IsTrue (has_no_circle (map type_needs types)) },
-    ghost vals_end: { IsTrue (has_no_circle (map val_needs vals)) },
+    pub ghost types_end: { IsTrue (has_no_circle (map type_needs types)) },
+    pub ghost vals_end: { IsTrue (has_no_circle (map val_needs vals)) },
     // each variable of a rule is bound, at one place alone, and used only after it
-    ghost bound_once: { IsTrue (list_all relation_binds_once rels) },
-    ghost used_after: { IsTrue (list_all relation_uses_bound rels) },
-    // a rule has at least one token, and no more parts than tokens or at most eight; the longest has 40 tokens, as the
-    // prelude's has, or more; all rules and vals together are below 2 ^ 27
-    ghost rules_small: { IsTrue (list_all relation_is_small rels) },
-    ghost long_rule: { IsTrue (has_long_rule rels) },
-    ghost light: { IsTrue (is_light vals rels) },
+    pub ghost bound_once: { IsTrue (list_all relation_binds_once rels) },
+    pub ghost used_after: { IsTrue (list_all relation_uses_bound rels) },
+    // a rule has at least one token, and no more parts than tokens or at most `FEW_PARTS`; the longest has as many tokens as
+    // the prelude's has, `PRELUDE_TOKENS`, or more; all rules and vals together are below `WEIGHT`
+    pub ghost rules_small: { IsTrue (list_all relation_is_small rels) },
+    pub ghost long_rule: { IsTrue (has_long_rule rels) },
+    pub ghost light: { IsTrue (is_light vals rels) },
     // `main` is there, of the type that `gives` tells, which has no variables
-    ghost main_fits: { IsTrue (is_main gives (slice_get rels main)) },
+    pub ghost main_fits: { IsTrue (is_main gives (slice_get rels main)) },
 }

@@ -4,6 +4,7 @@ ghost use Rattle.std.specs.Prelude.{◌≡◌, ◌^◌, ◌-◌, min, max, fold,
 ghost use Rattle.std.specs.List.{list_all};
 ghost use Rattle.rml_resolved.specs.Size.{pattern_size, exp_size, goal_size, rule_size, rule_is_small, relation_is_small, relation_tokens, tokens_of, longest as longest_of, has_long_rule, val_size, is_light};
 
+use crate::limits::{FEW_PARTS, PRELUDE_TOKENS, WEIGHT};
 use crate::tables::{RRule, RelDef, ValDef};
 use crate::trees::{RExp, RGoal, RPat};
 
@@ -106,10 +107,10 @@ fn is_small(rule: &RRule) -> bool
     ensures { result ≡ rule_is_small rule.now }
 {
     let count = count_rule(rule);
-    0 < rule.tokens && (count <= u64::from(rule.tokens) || count <= 8)
+    0 < rule.tokens && (count <= u64::from(rule.tokens) || count <= FEW_PARTS)
 }
 
-/// Whether each rule has at least one token, and no more parts than tokens or at most eight.
+/// Whether each rule has at least one token, and no more parts than tokens or at most `FEW_PARTS`.
 pub fn are_rules_small(rel: &RelDef) -> bool
     ensures { result ≡ relation_is_small rel.now }
 {
@@ -158,11 +159,11 @@ pub fn longest(rels: &[RelDef]) -> u32
     tokens
 }
 
-/// Whether a rule has 40 tokens or more, as the longest of the prelude's has.
+/// Whether a rule has as many tokens as the longest of the prelude's, or more.
 pub fn is_one_long(rels: &[RelDef]) -> bool
     ensures { result ≡ has_long_rule rels.now }
 {
-    40 <= longest(rels)
+    PRELUDE_TOKENS <= longest(rels)
 }
 
 fn count_vals(vals: &[ValDef]) -> u64
@@ -175,9 +176,9 @@ fn count_vals(vals: &[ValDef]) -> u64
     count
 }
 
-/// Whether the tokens of all rules and the expressions in all vals are together fewer than 2^27.
+/// Whether the tokens of all rules and the expressions in all vals are together fewer than `WEIGHT`.
 pub fn are_light(vals: &[ValDef], rels: &[RelDef]) -> bool
     ensures { result ≡ is_light vals.now rels.now }
 {
-    count_all_tokens(rels).saturating_add(count_vals(vals)) < 1 << 27
+    count_all_tokens(rels).saturating_add(count_vals(vals)) < WEIGHT
 }

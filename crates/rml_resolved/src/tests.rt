@@ -16,10 +16,15 @@ use std::test::Fail;
 #[derive(Clone, Copy, Debug, PartialEq, Eq)]
 enum Change {
     Nothing,
+    NameTwice,
+    NameWithinAnother,
     TypeOfAnotherName,
     FurtherTruthValue,
     NoneOfOne,
     RelationOfAnotherName,
+    RelationOfAnotherType,
+    RelationOfFurtherVariable,
+    RelationWithoutType,
     MeansNoType,
     MeansListWithoutArgument,
     MeansOverVariable,
@@ -33,6 +38,7 @@ enum Change {
     RelationWithoutRule,
     RelationDeclaredAsInteger,
     IntegerOutOfRange,
+    LastCharacter,
     TextOfNoName,
     ChainOfOneItem,
     ConOfTwo,
@@ -102,6 +108,8 @@ const NAMES: [&str; 31] = [
 /// The name that a change puts in place of another.
 fn renamed(change: Change, name: &'static str) -> &'static str {
     match (change, name) {
+        (Change::NameTwice, "v") => "A",
+        (Change::NameWithinAnother, "v") => "da",
         (Change::TypeOfAnotherName, "int") => "integer",
         (Change::RelationOfAnotherName, "list_turn") => "list_turned",
         _ => name,
@@ -283,11 +291,44 @@ fn wildcards(alloc: Global, count: u32) -> Result<Items<RPat>, Memory> {
     Ok(all)
 }
 
+fn items(alloc: Global) -> Result<SchemeTree, Memory> {
+    list_of(alloc, SchemeTree::Var(0))
+}
+
+/// What a relation of the prelude takes.
+fn inputs(alloc: Global, name: u32) -> Result<Items<SchemeTree>, Memory> {
+    match name {
+        15 | 16 => two(alloc, named(alloc, BOOL), named(alloc, BOOL)),
+        17 => one(alloc, named(alloc, BOOL)),
+        18 | 24 => two(alloc, items(alloc)?, items(alloc)?),
+        19 | 20 => one(alloc, items(alloc)?),
+        21 => two(alloc, SchemeTree::Var(0), items(alloc)?),
+        _ => two(alloc, items(alloc)?, named(alloc, INT)),
+    }
+}
+
+/// What a relation of the prelude gives.
+fn output(alloc: Global, name: u32) -> Result<SchemeTree, Memory> {
+    match name {
+        15 | 16 | 17 | 21 => Ok(named(alloc, BOOL)),
+        20 => Ok(named(alloc, INT)),
+        22 => Ok(SchemeTree::Var(0)),
+        _ => items(alloc),
+    }
+}
+
 /// The declared type of a relation of the prelude.
 fn declared(alloc: Global, change: Change, name: u32) -> Result<Option<Scheme>, Fail> {
+    let output = match (change, name) {
+        (Change::RelationOfAnotherType, 20) => SchemeTree::Var(0),
+        _ => output(alloc, name)?,
+    };
+    let body = SchemeTree::Rel(inputs(alloc, name)?, one(alloc, output)?);
     match (change, name) {
-        (Change::RelationDeclaredAsInteger, 24) => Ok(Some(scheme(alloc, 0, named(alloc, INT))?)),
-        _ => Ok(None),
+        (Change::RelationWithoutType, 24) => Ok(None),
+        (Change::RelationOfFurtherVariable, 15) => Ok(Some(scheme(alloc, 1, body)?)),
+        (_, 15) | (_, 16) | (_, 17) => Ok(Some(scheme(alloc, 0, body)?)),
+        _ => Ok(Some(scheme(alloc, 1, body)?)),
     }
 }
 
@@ -348,6 +389,7 @@ fn head(alloc: Global, change: Change) -> Result<Items<RPat>, Memory> {
 fn first_goal(alloc: Global, change: Change) -> Result<RGoal, Memory> {
     let arguments = match change {
         Change::IntegerOutOfRange => one(alloc, literal(1_073_741_824))?,
+        Change::LastCharacter => one(alloc, RExp::Lit(Lit::Char(255)))?,
         Change::TextOfNoName => one(alloc, RExp::Lit(Lit::Text(99)))?,
         Change::ConOfTwo => two(alloc, literal(1), literal(2))?,
         Change::UsedBefore => one(alloc, RExp::Var(2))?,
@@ -394,12 +436,12 @@ fn variables_of(change: Change) -> u32 {
     }
 }
 
-/// The rule has 17 parts, and the other rules and the vals weigh 216.
+/// The rule has 17 parts, and the other rules and the vals weigh 217.
 fn main_tokens(change: Change) -> u32 {
     match change {
         Change::RuleOfTooFewTokens => 16,
-        Change::HeaviestProgram => 134_217_511,
-        Change::HeavierProgram => 134_217_512,
+        Change::HeaviestProgram => 134_217_510,
+        Change::HeavierProgram => 134_217_511,
         _ => 20,
     }
 }
@@ -449,7 +491,30 @@ fn main_relation(alloc: Global, change: Change) -> Result<RelDef, Fail> {
     })
 }
 
-/// The relations of the prelude, each with the tokens of its longest rule, and `main`.
+/// A relation of one token, whose type is left to be inferred.
+fn other_relation(alloc: Global, change: Change) -> Result<RelDef, Fail> {
+    let rule = RRule {
+        place: NOWHERE,
+        inputs: Items::new(alloc),
+        goals: Items::new(alloc),
+        results: Items::new(alloc),
+        vars: 0,
+        tokens: 1,
+    };
+    let scheme = match change {
+        Change::RelationDeclaredAsInteger => Some(scheme(alloc, 0, named(alloc, INT))?),
+        _ => None,
+    };
+    Ok(RelDef {
+        module: 25,
+        name: 30,
+        place: NOWHERE,
+        scheme,
+        rules: one(alloc, rule)?,
+    })
+}
+
+/// The relations of the prelude, each with the tokens of its longest rule, `main` and another.
 fn relations(alloc: Global, change: Change) -> Result<Items<RelDef>, Fail> {
     let mut all = Items::new(alloc);
     for (name, tokens) in [
@@ -467,6 +532,7 @@ fn relations(alloc: Global, change: Change) -> Result<Items<RelDef>, Fail> {
         all.push(prelude_relation(alloc, change, name, tokens)?)?;
     }
     all.push(main_relation(alloc, change)?)?;
+    all.push(other_relation(alloc, change)?)?;
     Ok(all)
 }
 
@@ -490,6 +556,8 @@ fn is_accepted(alloc: Global, change: Change) -> Result<bool, Fail> {
 fn changes_that_break_no_fact(rt: HostRuntime) -> Result<(), Fail> {
     for change in [
         Change::Nothing,
+        Change::NameWithinAnother,
+        Change::LastCharacter,
         Change::ConOfMostArguments,
         Change::RuleOfEightParts,
         Change::HeaviestProgram,
@@ -502,10 +570,14 @@ fn changes_that_break_no_fact(rt: HostRuntime) -> Result<(), Fail> {
 #[test]
 fn changes_with_the_fact_that_each_breaks(rt: HostRuntime) -> Result<(), Fail> {
     let rows = [
+        (Change::NameTwice, "names_differ"),
         (Change::TypeOfAnotherName, "types_first"),
         (Change::FurtherTruthValue, "cons_first"),
         (Change::NoneOfOne, "cons_first"),
         (Change::RelationOfAnotherName, "relations_first"),
+        (Change::RelationOfAnotherType, "relations_first"),
+        (Change::RelationOfFurtherVariable, "relations_first"),
+        (Change::RelationWithoutType, "relations_first"),
         (Change::MeansNoType, "types_fit"),
         (Change::MeansListWithoutArgument, "types_fit"),
         (Change::MeansOverVariable, "types_fit"),

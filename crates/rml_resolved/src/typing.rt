@@ -5,6 +5,7 @@ ghost use Rattle.rml_types.specs.Schemes.{every};
 ghost use Rattle.rml_types.specs.declared.tree.SchemeTree.{out-SchemeTree};
 ghost use Rattle.rml_resolved.specs.Typing.{takes, type_fits, is_relation_type, scheme_fits, means_fits, type_def_fits, is_datatype as is_datatype_in, is_var, are_vars, is_whole, gives_whole, makes_whole, con_def_fits, is_constant, is_list_of_texts, takes_texts, gives_integer, is_main_type, is_main_scheme, is_main};
 
+use crate::limits::CON_ARGUMENTS;
 use crate::tables::{ConDef, RelDef, TypeDef};
 use rml_builtin::types::{INT, LIST, STRING};
 use rml_types::{Scheme, SchemeTree};
@@ -94,6 +95,7 @@ fn is_datatype(types: &[TypeDef], number: u32) -> bool
     }
 }
 
+/// Whether a type is the variable of a number.
 pub fn is_variable(k: usize, tree: &SchemeTree) -> bool
     ensures { result ≡ is_var k (out-SchemeTree tree.now) }
 {
@@ -146,19 +148,20 @@ fn is_making(name: u32, vars: u32, arity: u32, tree: &SchemeTree) -> bool
     }
 }
 
-/// Whether a constructor has a name, a datatype, fewer than 2^20 arguments, and a whole type from these to its datatype over
+/// Whether a constructor has a name, a datatype, fewer than `CON_ARGUMENTS` arguments, and a whole type from these to its datatype over
 /// the parameters.
 pub fn is_con_def(names: usize, types: &[TypeDef], def: &ConDef) -> bool
     ensures { result ≡ con_def_fits names types.now def.now }
 {
     (def.name as usize) < names
         && is_datatype(types, def.of)
-        && def.arity < 1 << 20
+        && def.arity < CON_ARGUMENTS
         && is_type_whole(types, &def.scheme.body)
         && is_making(def.of, def.scheme.vars, def.arity, &def.scheme.body)
 }
 
-fn is_plain(name: u32, tree: &SchemeTree) -> bool
+/// Whether a type is a name without arguments.
+pub fn is_plain(name: u32, tree: &SchemeTree) -> bool
     ensures { result ≡ is_constant name (out-SchemeTree tree.now) }
 {
     match tree {

@@ -1,6 +1,6 @@
 use Rattle.std.proofs.Common.{◌≡◌, take, length}
 use Rattle.rml_resolved.specs.Bound.{IsCounted}
-use Rattle.rml_resolved.proofs.bound.Bound.cut.Given as goal
+use Rattle.rml_resolved.proofs.bound.BoundVars.cut.Given as goal
 
 abbrev pub invariant-loop-order : goal.invariant-loop-order
 invariant-loop-order l = record {

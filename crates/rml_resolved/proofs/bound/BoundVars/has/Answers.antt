@@ -4,7 +4,7 @@ use Rattle.std.proofs.lemmas.Bool.Decides.{nat_tests}
 use Rattle.std.proofs.lemmas.List.{get_or_read}
 use Rattle.rml_resolved.specs.Binding.{contains}
 use Rattle.rml_resolved.proofs.Counts.{has-count, has-none}
-use Rattle.rml_resolved.proofs.bound.Bound.has.Goals as goal
+use Rattle.rml_resolved.proofs.bound.BoundVars.has.Goals as goal
 
 pub returns-then-place-len : goal.returns-then-place-len
 returns-then-place-len c =

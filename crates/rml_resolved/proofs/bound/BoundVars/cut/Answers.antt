@@ -2,7 +2,7 @@ use Rattle.std.proofs.Common.{arith, rules, subst, ap, sym, ◌∙◌, ◌++◌,
 use Rattle.std.proofs.lemmas.List.{get_or_read, length-append, take-append-le}
 use Rattle.rml_resolved.specs.Bound.{IsCounted}
 use Rattle.rml_resolved.proofs.Counts.{last-counted, has-place, counted-less}
-use Rattle.rml_resolved.proofs.bound.Bound.cut.Goals as goal
+use Rattle.rml_resolved.proofs.bound.BoundVars.cut.Goals as goal
 
 pub index_mut-requires : goal.index_mut-requires
 index_mut-requires c =

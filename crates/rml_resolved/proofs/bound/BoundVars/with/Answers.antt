@@ -2,7 +2,7 @@ use Rattle.std.proofs.Common.{arith, rules, subst, sym, ◌∙◌, ◌++◌, ◌
 use Rattle.std.proofs.lemmas.List.{get_or_read}
 use Rattle.rml_resolved.specs.Bound.{IsCounted}
 use Rattle.rml_resolved.proofs.Counts.{counted-more, count-small}
-use Rattle.rml_resolved.proofs.bound.Bound.with.Goals as goal
+use Rattle.rml_resolved.proofs.bound.BoundVars.with.Goals as goal
 
 pub overflow_add-index_mut : goal.overflow_add-index_mut
 overflow_add-index_mut c =
