@@ -33,6 +33,12 @@ const INT_GE: Part = Call(Callee::Built(12));
 
 const INT_STRING: Part = Call(Callee::Built(15));
 
+const STRING_APPEND: Part = Call(Callee::Built(21));
+
+const STRING_LIST: Part = Call(Callee::Built(22));
+
+const LIST_STRING: Part = Call(Callee::Built(23));
+
 const LVAR_NEW: Part = Call(Callee::Built(24));
 
 const LVAR_GET: Part = Call(Callee::Built(25));
@@ -83,7 +89,8 @@ pub const WITHOUT_END: &[&[Part]] = &[
     &[Rule, Relation],
 ];
 
-/// `f` sets its argument, prints and fails in its first rule, and prints in the second where the argument is unset.
+/// `f` sets its argument, prints and fails in its first rule, and prints in the second where the argument is unset. `true` and
+/// `NONE` are written by their numbers.
 pub const UNDONE_SETTINGS: &[&[Part]] = &[
     &[Any, Head],
     &[Set(0), LVAR_NEW],
@@ -92,10 +99,10 @@ pub const UNDONE_SETTINGS: &[&[Part]] = &[
     &[Set(0), Head],
     &[Get(0), Int(1), LVAR_SET],
     &[Text(A), PRINT],
-    &[Int(2), Int(1), Case(TRUE, 0), INT_LT],
+    &[Int(2), Int(1), Case(3, 0), INT_LT],
     &[Rule],
     &[Set(0), Head],
-    &[Get(0), Case(NONE, 0), LVAR_GET],
+    &[Get(0), Case(4, 0), LVAR_GET],
     &[Text(B), PRINT],
     &[Rule, Relation],
 ];
@@ -130,18 +137,19 @@ pub const NOT_NOT: &[&[Part]] = &[
     &[Rule, Relation],
 ];
 
-/// `main` asks `f` for 5; `f` calls `g` in each of its two rules, and the first fails; `g` prints and gives its argument.
+/// `main` asks `f` for 5; `f` calls `g` in each of its two rules, and the first fails; `g` prints and gives its argument. The truth
+/// value is written by its number.
 pub const PRINTING_PREMISE: &[&[Part]] = &[
     &[Any, Head],
     &[Int(5), Set(0), F],
     &[Get(0), Rule, Relation],
     &[Set(0), Head],
     &[Get(0), Set(1), G],
-    &[Get(1), Int(0), Case(TRUE, 0), INT_LT],
+    &[Get(1), Int(0), Case(3, 0), INT_LT],
     &[Get(1), Rule],
     &[Set(0), Head],
     &[Get(0), Set(1), G],
-    &[Get(1), Int(0), Case(TRUE, 0), INT_GE],
+    &[Get(1), Int(0), Case(3, 0), INT_GE],
     &[Get(1), Rule, Relation],
     &[Set(0), Head],
     &[Text(X), PRINT],
@@ -214,6 +222,17 @@ pub const NO_RULE_LEFT: &[&[Part]] = &[
     &[Get(4), Rule, Relation],
 ];
 
+/// A text of nine bytes that two joins make, its characters, and the text of these, which is printed.
+pub const TEXTS: &[&[Part]] = &[
+    &[Any, Head],
+    &[Text(HI), Text(HI), Set(0), STRING_APPEND],
+    &[Get(0), Text(HI), Set(1), STRING_APPEND],
+    &[Get(1), Set(2), STRING_LIST],
+    &[Get(2), Set(3), LIST_STRING],
+    &[Get(3), PRINT],
+    &[Rule, Relation],
+];
+
 /// The item at 2 of a vector of 4, 5 and 6, and its length added.
 pub const VECTOR: &[&[Part]] = &[
     &[Any, Head],
@@ -232,14 +251,14 @@ pub const OUTSIDE: &[&[Part]] = &[
     &[Get(1), Rule, Relation],
 ];
 
-/// Two vectors of a list are equal, and the list of one is that list.
+/// Two vectors of a list are equal, and the list of one is that list, written by the numbers of `[]` and `::`.
 pub const VECTOR_EQUALITY: &[&[Part]] = &[
     &[Any, Head],
     &[Int(1), ListOf(1), Set(0), LIST_VECTOR],
     &[Int(1), ListOf(1), Set(1), LIST_VECTOR],
     &[Get(0), Get(1), Equal],
     &[Get(0), Set(2), VECTOR_LIST],
-    &[Get(2), Int(1), ListOf(1), Equal],
+    &[Get(2), Int(1), Tree(0, 0), Tree(1, 2), Equal],
     &[Rule, Relation],
 ];
 
@@ -296,6 +315,20 @@ pub const BY_A_VARIABLE: &[&[Part]] = &[
     &[Set(0), Head],
     &[Text(A), PRINT],
     &[Get(0), Rule, Relation],
+];
+
+/// `f` is the relation of a built-in: its one rule calls it. `main` passes `f` and two integers to `g`, which calls what
+/// it is given with the rest.
+pub const BUILT_IN_AS_A_VALUE: &[&[Part]] = &[
+    &[Any, Head],
+    &[Rel(MAIN + 1), Int(20), Int(22), Set(0), G],
+    &[Get(0), Rule, Relation],
+    &[Set(0), Set(1), Head],
+    &[Get(0), Get(1), Set(2), INT_ADD],
+    &[Get(2), Rule, Relation],
+    &[Set(0), Set(1), Set(2), Head],
+    &[Get(1), Get(2), Set(3), FIRST_VARIABLE],
+    &[Get(3), Rule, Relation],
 ];
 
 /// `main` prints where it has an argument; where it has none, it calls itself with one through a val, and prints.

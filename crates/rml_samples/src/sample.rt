@@ -98,12 +98,13 @@ fn names(alloc: Global) -> Result<Items<Bytes>, Memory> {
     Ok(names)
 }
 
-/// An argument of a constructor.
+/// What a constructor is made of, and what a relation of the prelude takes and gives.
 #[derive(Clone, Copy)]
 enum Input {
     Param,
     ListOfParam,
     Int,
+    Bool,
     Tree,
 }
 
@@ -120,6 +121,30 @@ const CONS: [(u32, u32, u32, &[Input]); 11] = [
     (36, EXP, 0, &[Input::Tree, Input::Tree]),
     (37, EXP, 0, &[Input::Tree, Input::Tree]),
     (38, EXP, 0, &[Input::Tree, Input::Tree]),
+];
+
+/// The relations of the prelude: the number of the name, how many variables the type has, what it takes and what it gives.
+const PRELUDE: [(u32, u32, &[Input], Input); 10] = [
+    (15, 0, &[Input::Bool, Input::Bool], Input::Bool),
+    (16, 0, &[Input::Bool, Input::Bool], Input::Bool),
+    (17, 0, &[Input::Bool], Input::Bool),
+    (
+        18,
+        1,
+        &[Input::ListOfParam, Input::ListOfParam],
+        Input::ListOfParam,
+    ),
+    (19, 1, &[Input::ListOfParam], Input::ListOfParam),
+    (20, 1, &[Input::ListOfParam], Input::Int),
+    (21, 1, &[Input::Param, Input::ListOfParam], Input::Bool),
+    (22, 1, &[Input::ListOfParam, Input::Int], Input::Param),
+    (23, 1, &[Input::ListOfParam, Input::Int], Input::ListOfParam),
+    (
+        24,
+        1,
+        &[Input::ListOfParam, Input::ListOfParam],
+        Input::ListOfParam,
+    ),
 ];
 
 /// A type over the variables 0 and on.
@@ -168,19 +193,30 @@ fn tree_of(alloc: Global, input: Input) -> Result<SchemeTree, Memory> {
         Input::Param => Ok(SchemeTree::Var(0)),
         Input::ListOfParam => named(alloc, LIST, 1),
         Input::Int => named(alloc, INT, 0),
+        Input::Bool => named(alloc, BOOL, 0),
         Input::Tree => named(alloc, EXP, 0),
     }
 }
 
+fn trees_of(alloc: Global, inputs: &[Input]) -> Result<Items<SchemeTree>, Memory> {
+    let mut trees = Items::new(alloc);
+    for input in inputs {
+        trees.push(tree_of(alloc, *input)?)?;
+    }
+    Ok(trees)
+}
+
 /// The type of a constructor.
 fn makes(alloc: Global, of: u32, params: u32, inputs: &[Input]) -> Result<SchemeTree, Memory> {
-    let mut ins = Items::new(alloc);
-    for i in inputs {
-        ins.push(tree_of(alloc, *i)?)?;
-    }
     let mut outs = Items::new(alloc);
     outs.push(named(alloc, of, params)?)?;
-    Ok(SchemeTree::Rel(ins, outs))
+    Ok(SchemeTree::Rel(trees_of(alloc, inputs)?, outs))
+}
+
+/// The type of a relation of the prelude.
+fn declared(alloc: Global, vars: u32, inputs: &[Input], output: Input) -> Result<Scheme, Fail> {
+    let tree = SchemeTree::Rel(trees_of(alloc, inputs)?, trees_of(alloc, &[output])?);
+    Ok(Scheme::checked(alloc, vars, tree)?.ok_or("a scheme")?)
 }
 
 fn cons(alloc: Global) -> Result<Items<ConDef>, Fail> {
@@ -252,9 +288,10 @@ fn type_of_main(alloc: Global, gives: bool) -> Result<Scheme, Fail> {
 /// The prelude's relations, each with a rule that does nothing, and those of the caller, the first of which is `main`.
 fn relations(alloc: Global, gives: bool, own: Vec<Vec<RRule>>) -> Result<Items<RelDef>, Fail> {
     let mut rels = Items::new(alloc);
-    for name in 15..25 {
+    for (name, vars, inputs, output) in PRELUDE {
         let rule = rule(0, Vec::new(alloc), Vec::new(alloc), Vec::new(alloc));
-        rels.push(relation(0, name, None, vec![in alloc; rule]?))?;
+        let scheme = Some(declared(alloc, vars, inputs, output)?);
+        rels.push(relation(0, name, scheme, vec![in alloc; rule]?))?;
     }
     let mut scheme = Some(type_of_main(alloc, gives)?);
     for rules in own {

@@ -1,15 +1,18 @@
-//! How searches of small programs end: with which outcome, after how many steps, and what they print. The numbers are
-//! counted by hand: a step for each call begun, each rule begun, each answer given and each `not` that succeeds.
+//! How searches of small programs end: with which outcome, after how many steps, what they print, and what they make and weigh.
+//! The numbers are counted by hand: a step for each call begun, each rule begun, each answer given and each `not` that
+//! succeeds.
 
 use crate::programs::{
-    A_VAL, ARGUMENTS, BY_A_VAL, BY_A_VARIABLE, ECHO, EVALUATOR, FAILURE, FEWER_PATTERNS,
-    FIRST_ANSWER, HELLO, INTEGER_CALLED, INTEGER_CALLED_BY_A_VAL, LISTS, MORE_PATTERNS, NO_MEANING,
-    NO_RULE_LEFT, NOT, NOT_NOT, OUTSIDE, PATTERN_WITHOUT_RESULT, PRINTING_PREMISE, RANGE,
-    RESULT_WITHOUT_PATTERN, UNDONE_SETTINGS, VECTOR, VECTOR_EQUALITY, WITHOUT_END,
+    A_VAL, ARGUMENTS, BUILT_IN_AS_A_VALUE, BY_A_VAL, BY_A_VARIABLE, ECHO, EVALUATOR, FAILURE,
+    FEWER_PATTERNS, FIRST_ANSWER, HELLO, INTEGER_CALLED, INTEGER_CALLED_BY_A_VAL, LISTS,
+    MORE_PATTERNS, NO_MEANING, NO_RULE_LEFT, NOT, NOT_NOT, OUTSIDE, PATTERN_WITHOUT_RESULT,
+    PRINTING_PREMISE, RANGE, RESULT_WITHOUT_PATTERN, TEXTS, UNDONE_SETTINGS, VECTOR,
+    VECTOR_EQUALITY, WITHOUT_END,
 };
 use crate::sample::parts;
 use crate::spelled::{Part, relations};
-use rml_base::{Bytes, Outcome, light_reflexive, same_reflexive};
+use rml_base::laws::{light_reflexive, same_reflexive};
+use rml_base::{Bytes, Outcome};
 use rml_resolved::Program;
 use rml_search::{Searched, search};
 use std::alloc::Global;
@@ -131,6 +134,12 @@ const VECTOR_EQUALITY_ENDS: Ends = &[
     (99, Outcome::Answer(None), ""),
 ];
 
+const TEXTS_ENDS: Ends = &[
+    (1, Outcome::Cut, ""),
+    (2, Outcome::Cut, "hi\nhi\nhi\n"),
+    (3, Outcome::Answer(None), "hi\nhi\nhi\n"),
+];
+
 // main 1, its rule 2, f 3, its rules 4 to 6, the answers 7 and 8
 const LISTS_ENDS: Ends = &[(7, Outcome::Cut, ""), (8, Outcome::Answer(Some(2)), "")];
 
@@ -154,6 +163,13 @@ const BY_A_VAL_ENDS: Ends = &[
     (5, Outcome::Cut, "a"),
     (6, Outcome::Cut, "ab"),
     (7, Outcome::Answer(None), "ab"),
+];
+
+// main 1, its rule 2, g 3, its rule 4, f 5, its rule 6, the answers 7 to 9
+const BUILT_IN_AS_A_VALUE_ENDS: Ends = &[
+    (8, Outcome::Cut, ""),
+    (9, Outcome::Answer(Some(42)), ""),
+    (99, Outcome::Answer(Some(42)), ""),
 ];
 
 const NO_MEANING_ENDS: Ends = &[
@@ -212,7 +228,7 @@ fn differs_at(
     let program = program(alloc, spelled, gives)?;
     for (n, outcome, text) in ends {
         let ended = search(alloc, &program, &[], *n)?;
-        if ended.0 != *outcome || ended.1.as_slice() != text.as_bytes() {
+        if ended.outcome != *outcome || ended.text.as_slice() != text.as_bytes() {
             return Ok(Some(*n));
         }
     }
@@ -269,8 +285,9 @@ fn evaluators_end_as_counted(rt: HostRuntime) -> Result<(), Fail> {
     Ok(())
 }
 
-/// Programs over vectors, lists and vals, and calls of values.
-const VALUES: [(&[&[Part]], bool, Ends); 7] = [
+/// Programs over texts, vectors, lists and vals, and calls of values.
+const VALUES: [(&[&[Part]], bool, Ends); 9] = [
+    (TEXTS, false, TEXTS_ENDS),
     (VECTOR, true, VECTOR_ENDS),
     (OUTSIDE, true, OUTSIDE_ENDS),
     (VECTOR_EQUALITY, false, VECTOR_EQUALITY_ENDS),
@@ -278,6 +295,7 @@ const VALUES: [(&[&[Part]], bool, Ends); 7] = [
     (A_VAL, true, A_VAL_ENDS),
     (BY_A_VARIABLE, true, BY_A_VARIABLE_ENDS),
     (BY_A_VAL, false, BY_A_VAL_ENDS),
+    (BUILT_IN_AS_A_VALUE, true, BUILT_IN_AS_A_VALUE_ENDS),
 ];
 
 #[test]
@@ -305,6 +323,41 @@ fn what_has_no_meaning_ends_a_search(rt: HostRuntime) -> Result<(), Fail> {
     let alloc = rt.alloc();
     for (i, (spelled, gives, ends)) in UNTYPED.iter().enumerate() {
         assert_eq!(rt; differs_at(alloc, spelled, *gives, *ends)?, None, "row {i}");
+    }
+    Ok(())
+}
+
+/// What a step weighs: 16 for each of the 40 tokens of the longest rule, and 64.
+const STEP: u64 = 704;
+
+/// A program, whether its `main` gives an integer, the most steps, the cells that its built-ins make, and what its steps weigh.
+const COSTS: [(&[&[Part]], bool, u32, u64, u64); 11] = [
+    (HELLO, false, 0, 0, 0),
+    (HELLO, false, 99, 0, 3 * STEP),
+    // what fails and what has no meaning weigh the steps that they took
+    (FAILURE, false, 99, 0, 2 * STEP),
+    (NO_MEANING, false, 99, 0, 2 * STEP),
+    (WITHOUT_END, false, 50, 0, 50 * STEP),
+    // a text of two bytes, made behind the 21st step
+    (EVALUATOR, true, 20, 0, 20 * STEP),
+    (EVALUATOR, true, 99, 2, 22 * STEP),
+    // a vector of three items, also where the rule fails behind it
+    (VECTOR, true, 99, 4, 3 * STEP),
+    (OUTSIDE, true, 99, 4, 2 * STEP),
+    // two vectors of one item, and the list of one
+    (VECTOR_EQUALITY, false, 99, 7, 3 * STEP),
+    // texts of six and nine bytes, a list of nine characters, and a text of nine bytes
+    (TEXTS, false, 99, 35, 3 * STEP),
+];
+
+#[test]
+fn searches_make_and_weigh_as_counted(rt: HostRuntime) -> Result<(), Fail> {
+    let alloc = rt.alloc();
+    for (i, (spelled, gives, most, made, weighed)) in COSTS.iter().enumerate() {
+        let program = program(alloc, spelled, *gives)?;
+        let ended = search(alloc, &program, &[], *most)?;
+        assert_eq!(rt; ended.made, *made, "row {i}");
+        assert_eq!(rt; ended.weighed, *weighed, "row {i}");
     }
     Ok(())
 }
@@ -342,8 +395,8 @@ fn arguments_are_a_list_of_texts(rt: HostRuntime) -> Result<(), Fail> {
             args.push(Bytes::of(Vec::from_slice(alloc, word.as_bytes())?))?;
         }
         let ended = search(alloc, &program, &args, *n)?;
-        assert_eq!(rt; ended.0, *outcome, "row {i}");
-        assert_eq!(rt; ended.1.as_slice(), text.as_bytes(), "row {i}");
+        assert_eq!(rt; ended.outcome, *outcome, "row {i}");
+        assert_eq!(rt; ended.text.as_slice(), text.as_bytes(), "row {i}");
     }
     Ok(())
 }

@@ -1,26 +1,32 @@
--- What a caller sees of a run, by what is shown of the call of `main`.
-use Rattle.std.proofs.Common.{◌≡◌, ◌≢◌, refl, append-nil}
-use Rattle.rml_base.specs.Run.{Answer as Answered, Failure, Full, bare, seen}
-use Rattle.rml_base.specs.Went as base
-use Rattle.rml_base.specs.Went.{followed}
-use Rattle.rml_builtin.specs.declared.given.Answer.{Answer}
-use Rattle.rml_search.specs.Shown.{shown, outcome_of, text_of}
-use Rattle.rml_search.specs.Runs.{integer_in}
+-- The run of a search by how the call of `main` went: its text, what it made and what it weighed are those of the call.
+use Rattle.std.proofs.Common.{◌≡◌, ◌≢◌, refl, append-nil, arith}
+use Rattle.rml_base.specs.Run.{Full}
+use Rattle.rml_simulation.specs.declared.partial.Partial.{Partial}
+use Rattle.rml_simulation.specs.declared.partial.Partial.TheVariants.{Yes, No, CutOff, GoneWrong}
+use Rattle.rml_simulation.specs.Partial.{trace_of}
+use Rattle.rml_builtin.specs.declared.applied.Answer.{Answer}
+use Rattle.rml_search.specs.Runs.{run_from}
 
-pub seen_of_shown : (w : base.Went Answer) → seen (followed w (λ a m. bare (Answered (integer_in a.values))) (λ m. bare Failure)).outcome ≡ outcome_of (shown w)
-seen_of_shown (base.Yes a t n) = refl
-seen_of_shown (base.No t n) = refl
-seen_of_shown (base.CutOff t) = refl
-seen_of_shown (base.GoneWrong t) = refl
+pub text_of_run : (w : Partial Answer) → (run_from w).text ≡ (trace_of w).text
+text_of_run (Yes a t n) = append-nil t.text
+text_of_run (No t n) = append-nil t.text
+text_of_run (CutOff t) = refl
+text_of_run (GoneWrong t) = refl
 
-pub text_of_shown : (w : base.Went Answer) → (followed w (λ a m. bare (Answered (integer_in a.values))) (λ m. bare Failure)).text ≡ text_of (shown w)
-text_of_shown (base.Yes a t n) = append-nil t.text
-text_of_shown (base.No t n) = append-nil t.text
-text_of_shown (base.CutOff t) = refl
-text_of_shown (base.GoneWrong t) = refl
+pub made_of_run : (w : Partial Answer) → (run_from w).made ≡ (trace_of w).made
+made_of_run (Yes a t n) = omega arith
+made_of_run (No t n) = omega arith
+made_of_run (CutOff t) = refl
+made_of_run (GoneWrong t) = refl
 
-pub never_full : (w : base.Went Answer) → (followed w (λ a m. bare (Answered (integer_in a.values))) (λ m. bare Failure)).outcome ≢ Full
-never_full (base.Yes a t n) e = absurd (cc)
-never_full (base.No t n) e = absurd (cc)
-never_full (base.CutOff t) e = absurd (cc)
-never_full (base.GoneWrong t) e = absurd (cc)
+pub weighed_of_run : (w : Partial Answer) → (run_from w).weighed ≡ (trace_of w).weighed
+weighed_of_run (Yes a t n) = omega arith
+weighed_of_run (No t n) = omega arith
+weighed_of_run (CutOff t) = refl
+weighed_of_run (GoneWrong t) = refl
+
+pub never_full : (w : Partial Answer) → (run_from w).outcome ≢ Full
+never_full (Yes a t n) e = absurd (cc)
+never_full (No t n) e = absurd (cc)
+never_full (CutOff t) e = absurd (cc)
+never_full (GoneWrong t) e = absurd (cc)

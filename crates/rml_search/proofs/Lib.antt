@@ -4,5 +4,7 @@ pub mod Valued
 pub mod Standing
 pub mod Depth
 pub mod Weighing
-pub mod Shown
+pub mod Exact
+pub mod Alone
+pub mod Traces
 pub mod Ends

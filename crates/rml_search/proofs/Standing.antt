@@ -8,18 +8,21 @@ use Rattle.std.proofs.lemmas.Bool.{ltb-true}
 use Rattle.std.proofs.lemmas.List.{append-nil, map-append}
 use Rattle.std.proofs.lemmas.List.Folds.{list_all-append}
 use Rattle.std.proofs.lemmas.Option.{cond_some, same_Some, option_and_then_some}
-use Rattle.rml_base.specs.Went.{Trace, untraced, Went, Yes, No, CutOff, GoneWrong, after, then_go, unless}
+use Rattle.rml_simulation.specs.declared.partial.Trace.{Trace}
+use Rattle.rml_simulation.specs.declared.partial.Partial.{Partial}
+use Rattle.rml_simulation.specs.declared.partial.Partial.TheVariants.{Yes, No, CutOff, GoneWrong}
+use Rattle.rml_simulation.specs.Partial.{untraced, after, then_go, unless}
 use Rattle.rml_syntax.specs.declared.token.Lit.{Lit}
 use Rattle.rml_syntax.specs.declared.token.Lit.TheVariants as lit
 use Rattle.rml_value.specs.declared.value.Value.{Value, out-Value}
 use Rattle.rml_value.specs.declared.value.Value.TheOpen.{Value-F}
 use Rattle.rml_value.specs.declared.value.TheConstants.{NIL, CONS}
 use Rattle.rml_value.specs.Same.{same}
-use Rattle.rml_builtin.specs.declared.given.Answer.{Answer}
-use Rattle.rml_builtin.specs.declared.given.Given.{Given}
-use Rattle.rml_builtin.specs.declared.given.Given.TheVariants as given
-use Rattle.rml_builtin.specs.Given.{Bindings}
-use Rattle.rml_builtin.specs.BuiltIns.{built_in_at}
+use Rattle.rml_builtin.specs.declared.applied.Answer.{Answer}
+use Rattle.rml_builtin.specs.declared.applied.Applied.{Applied}
+use Rattle.rml_builtin.specs.declared.applied.Applied.TheVariants as applied
+use Rattle.rml_builtin.specs.Applied.{Store}
+use Rattle.rml_builtin.specs.BuiltIns.{apply_at}
 use Rattle.rml_resolved.specs.declared.program.Program.{Program}
 use Rattle.rml_resolved.specs.declared.tables.RelDef.{RelDef}
 use Rattle.rml_resolved.specs.declared.tables.RRule.{RRule}
@@ -31,17 +34,19 @@ use Rattle.rml_resolved.specs.declared.trees.RGoal.{RGoal, out-RGoal, map-RGoal,
 use Rattle.rml_resolved.specs.declared.trees.RGoal.TheOpen.{RGoal-F}
 use Rattle.rml_resolved.specs.declared.trees.RGoal.TheVariants.{Not, All, rolls-Not, rolls-All}
 use Rattle.rml_resolved.specs.declared.trees.RGoal.TheViews.{out-roll-RGoal}
-use Rattle.rml_resolved.specs.Binding.{contains, binds_at, binds, all_bind, uses, all_use, callee_uses, can_use, Part, goal_at as bound_at, after_goal, after_goals, in_turn as parts_in_turn, before_results, has_all, uses_bound, relation_uses_bound}
+use Rattle.rml_resolved.specs.Binding.{contains, binds_at, binds, all_bind, uses, all_use, callee_uses, can_use, Part, bound_at, after_goal, after_goals, parts_in_turn, before_results, has_all, uses_bound, relation_uses_bound}
 use Rattle.rml_resolved.specs.Fits.{goal_at as fits_at, pattern_fits, patterns_fit, exp_fits, exps_fit, callee_fits, goal_fits, goals_fit, rule_fits, relation_fits, counts_of}
 use Rattle.rml_resolved.proofs.Facts.{Both, both}
 use Rattle.rml_resolved.proofs.Variables.{passes}
-use Rattle.rml_search.specs.declared.state.Bound.{Bound}
+use Rattle.rml_search.specs.declared.state.Binding.{Binding}
 use Rattle.rml_search.specs.declared.state.Matched.{Matched}
 use Rattle.rml_search.specs.declared.state.Matched.TheVariants as matched
-use Rattle.rml_search.specs.declared.state.After.{After}
-use Rattle.rml_search.specs.Matching.{Env, bind, Matcher, then_match, in_turn as match_in_turn, match_all, match_text, match_lit, match_con_at, match_tuple_at, match_list, match_chain, match_at, matching, matching_all}
+use Rattle.rml_search.specs.declared.state.State.{State}
+use Rattle.rml_search.specs.Matching.{Env, bind, Matcher, then_match, match_in_turn, match_all, match_text, match_lit, match_con_at, match_tuple_at, match_list, match_chain, match_at, matching, matching_all}
 use Rattle.rml_search.specs.Values.{bound_in, value_of, values_of}
-use Rattle.rml_search.specs.Search.{step_weight, step, RelationCalls, Action, goes_on, in_turn, from_match, taken, trace_of_built_in, from_built_in, with_value, call, relation_of, relation_called, called, goal_at, going, going_all}
+use Rattle.rml_search.specs.Context.{Context}
+use Rattle.rml_search.specs.Search.{step_trace, weighted_step, RelationCalls, Action, goes_on, goals_in_turn, from_match, taken, trace_of_built_in, from_built_in, with_value, call, relation_of, relation_called, called, goal_action, going, going_all}
+use Rattle.rml_search.specs.Whole.{context_of}
 use Rattle.rml_search.specs.Standing.{BindsAlso, HasBound, Stands, in_rule, in_not, in_brackets, CalleeHasValue, HasValues}
 use Rattle.rml_search.proofs.Valued.{each_val, found_in, each_expression, all_expressions}
 
@@ -77,7 +82,7 @@ lit_binds names (lit.Text k) (Value-F.Text t) env = text_binds (slice_get names 
 lit_binds names _ _ env = tt
 
 bind_bound : (x : ℕ) (v : Value) (env : Env) → bound_in (bind x v env) ≡ bound_in env ++ x ∷ []
-bind_bound x v env = map-append (λ (b : Bound). b.var) env (record { var = x; value = v } ∷ [])
+bind_bound x v env = map-append (λ (b : Binding). b.var) env (record { var = x; value = v } ∷ [])
 
 abbrev Adds : Matcher → List ℕ → Type 0
 Adds m xs = (v : Value) (env : Env) → BindsAlso env xs (m v env)
@@ -180,92 +185,92 @@ module _ (names : List (List ℕ)) where
 
 -- ---- after goals
 
-bound_after : (bound : List ℕ) (t : Trace) (w : Went After) → HasBound bound w → HasBound bound (after t w)
+bound_after : (bound : List ℕ) (t : Trace) (w : Partial State) → HasBound bound w → HasBound bound (after t w)
 bound_after bound t (Yes s u n) h = h
 bound_after bound t (No u n) h = tt
 bound_after bound t (CutOff u) h = tt
 bound_after bound t (GoneWrong u) h = tt
 
-bound_then : {A : Type 0} (bound : List ℕ) (w : Went A) (go : A → ℕ → Went After) → ((a : A) (n : ℕ) → HasBound bound (go a n)) → HasBound bound (then_go w go)
+bound_then : {A : Type 0} (bound : List ℕ) (w : Partial A) (go : A → ℕ → Partial State) → ((a : A) (n : ℕ) → HasBound bound (go a n)) → HasBound bound (then_go w go)
 bound_then bound (Yes a t n) go each = bound_after bound t (go a n) (each a n)
 bound_then bound (No t n) go each = tt
 bound_then bound (CutOff t) go each = tt
 bound_then bound (GoneWrong t) go each = tt
 
-bound_on : (before bound : List ℕ) (w : Went After) (go : After → ℕ → Went After) → HasBound before w
-    → ((s : After) (n : ℕ) → bound_in s.env ≡ before → HasBound bound (go s n)) → HasBound bound (then_go w go)
+bound_on : (before bound : List ℕ) (w : Partial State) (go : State → ℕ → Partial State) → HasBound before w
+    → ((s : State) (n : ℕ) → bound_in s.env ≡ before → HasBound bound (go s n)) → HasBound bound (then_go w go)
 bound_on before bound (Yes s t n) go h each = bound_after bound t (go s n) (each s n h)
 bound_on before bound (No t n) go h each = tt
 bound_on before bound (CutOff t) go h each = tt
 bound_on before bound (GoneWrong t) go h each = tt
 
-bound_unless : {A : Type 0} (bound : List ℕ) (w : Went A) (go : ℕ → Went After) → ((n : ℕ) → HasBound bound (go n)) → HasBound bound (unless w go)
+bound_unless : {A : Type 0} (bound : List ℕ) (w : Partial A) (go : ℕ → Partial State) → ((n : ℕ) → HasBound bound (go n)) → HasBound bound (unless w go)
 bound_unless bound (Yes a t n) go each = tt
 bound_unless bound (No t n) go each = bound_after bound t (go n) (each n)
 bound_unless bound (CutOff t) go each = tt
 bound_unless bound (GoneWrong t) go each = tt
 
-bound_with : {A : Type 0} (bound : List ℕ) (o : Option A) (go : A → ℕ → Went After) (n : ℕ) → ((a : A) → HasBound bound (go a n)) → HasBound bound (with_value o go n)
+bound_with : {A : Type 0} (bound : List ℕ) (o : Option A) (go : A → ℕ → Partial State) (n : ℕ) → ((a : A) → HasBound bound (go a n)) → HasBound bound (with_value o go n)
 bound_with bound None go n each = tt
 bound_with bound (Some a) go n each = each a
 
-bound_step : (p : Program) (bound : List ℕ) (go : ℕ → Went After) (n : ℕ) → ((m : ℕ) → HasBound bound (go m)) → HasBound bound (step p go n)
-bound_step p bound go zero each = tt
-bound_step p bound go (suc n) each = bound_after bound (record { text = []; made = 0; weighed = step_weight p }) (go n) (each n)
+bound_step : (weight : ℕ) (bound : List ℕ) (go : ℕ → Partial State) (n : ℕ) → ((m : ℕ) → HasBound bound (go m)) → HasBound bound (weighted_step weight go n)
+bound_step weight bound go zero each = tt
+bound_step weight bound go (suc n) each = bound_after bound (step_trace weight) (go n) (each n)
 
-bound_match : (env : Env) (xs bound : List ℕ) (m : Matched) (bindings : Bindings) (n : ℕ) → bound_in env ++ xs ≡ bound → BindsAlso env xs m → HasBound bound (from_match m bindings n)
-bound_match env xs bound (matched.Yes next) bindings n e h = h ∙ e
-bound_match env xs bound matched.No bindings n e h = tt
-bound_match env xs bound matched.Wrong bindings n e h = tt
+bound_match : (env : Env) (xs bound : List ℕ) (m : Matched) (store : Store) (n : ℕ) → bound_in env ++ xs ≡ bound → BindsAlso env xs m → HasBound bound (from_match m store n)
+bound_match env xs bound (matched.Yes next) store n e h = h ∙ e
+bound_match env xs bound matched.No store n e h = tt
+bound_match env xs bound matched.Wrong store n e h = tt
 
-bound_same : (b : Bool) (bound : List ℕ) (env : Env) (bindings : Bindings) (n : ℕ) → bound_in env ≡ bound
-    → HasBound bound (if b then goes_on env bindings n else No untraced n)
-bound_same true bound env bindings n e = e
-bound_same false bound env bindings n e = tt
+bound_same : (b : Bool) (bound : List ℕ) (env : Env) (store : Store) (n : ℕ) → bound_in env ≡ bound
+    → HasBound bound (if b then goes_on env store n else No untraced n)
+bound_same true bound env store n e = e
+bound_same false bound env store n e = tt
 
-module _ (p : Program) (calls : RelationCalls) where
-  bound_taken : (ps : List RPat) (bound : List ℕ) (env : Env) (a : Answer) (n : ℕ) → bound_in env ++ all_bind ps ≡ bound → HasBound bound (taken p ps env a n)
-  bound_taken ps bound env a n e = bound_match env (all_bind ps) bound (matching_all p.names ps a.values env) a.bindings n e (matches_bind p.names ps a.values env)
+module _ (c : Context) (calls : RelationCalls) where
+  bound_taken : (ps : List RPat) (bound : List ℕ) (env : Env) (a : Answer) (n : ℕ) → bound_in env ++ all_bind ps ≡ bound → HasBound bound (taken c ps env a n)
+  bound_taken ps bound env a n e = bound_match env (all_bind ps) bound (matching_all c.names ps a.values env) a.store n e (matches_bind c.names ps a.values env)
 
-  bound_built : (number : ℕ) (ps : List RPat) (bound : List ℕ) (env : Env) (g : Given) (n : ℕ) → bound_in env ++ all_bind ps ≡ bound → HasBound bound (from_built_in p number ps env g n)
-  bound_built number ps bound env (given.Yes a t) n e = bound_after bound (trace_of_built_in number a.values t) (taken p ps env a n) (bound_taken ps bound env a n e)
-  bound_built number ps bound env given.No n e = tt
-  bound_built number ps bound env given.Wrong n e = tt
+  bound_built : (number : ℕ) (ps : List RPat) (bound : List ℕ) (env : Env) (g : Applied) (n : ℕ) → bound_in env ++ all_bind ps ≡ bound → HasBound bound (from_built_in c number ps env g n)
+  bound_built number ps bound env (applied.Yes a t) n e = bound_after bound (trace_of_built_in number a.values t) (taken c ps env a n) (bound_taken ps bound env a n e)
+  bound_built number ps bound env applied.No n e = tt
+  bound_built number ps bound env applied.Wrong n e = tt
 
-  bound_relation : (r : Option ℕ) (vs : List Value) (ps : List RPat) (bound : List ℕ) (env : Env) (bindings : Bindings) (n : ℕ) → bound_in env ++ all_bind ps ≡ bound
-      → HasBound bound (relation_called p calls r vs ps env bindings n)
-  bound_relation r vs ps bound env bindings n e =
-      bound_then bound (call p calls r (record { values = vs; bindings = bindings }) n) (taken p ps env) (λ a m. bound_taken ps bound env a m e)
+  bound_relation : (r : Option ℕ) (vs : List Value) (ps : List RPat) (bound : List ℕ) (env : Env) (store : Store) (n : ℕ) → bound_in env ++ all_bind ps ≡ bound
+      → HasBound bound (relation_called c calls r vs ps env store n)
+  bound_relation r vs ps bound env store n e =
+      bound_then bound (call c calls r (record { values = vs; store = store }) n) (taken c ps env) (λ a m. bound_taken ps bound env a m e)
 
-  bound_called : (f : Callee) (vs : List Value) (ps : List RPat) (bound : List ℕ) (env : Env) (bindings : Bindings) (n : ℕ) → bound_in env ++ all_bind ps ≡ bound
-      → HasBound bound (called p calls f vs ps env bindings n)
-  bound_called (callee.Built k) vs ps bound env bindings n e = bound_built k ps bound env (built_in_at k vs bindings) n e
-  bound_called (callee.Rel r) vs ps bound env bindings n e = bound_relation (relation_of p (callee.Rel r) env) vs ps bound env bindings n e
-  bound_called (callee.Var x) vs ps bound env bindings n e = bound_relation (relation_of p (callee.Var x) env) vs ps bound env bindings n e
-  bound_called (callee.Val k) vs ps bound env bindings n e = bound_relation (relation_of p (callee.Val k) env) vs ps bound env bindings n e
+  bound_called : (f : Callee) (vs : List Value) (ps : List RPat) (bound : List ℕ) (env : Env) (store : Store) (n : ℕ) → bound_in env ++ all_bind ps ≡ bound
+      → HasBound bound (called c calls f vs ps env store n)
+  bound_called (callee.Built k) vs ps bound env store n e = bound_built k ps bound env (apply_at k vs store) n e
+  bound_called (callee.Rel r) vs ps bound env store n e = bound_relation (relation_of c (callee.Rel r) env) vs ps bound env store n e
+  bound_called (callee.Var x) vs ps bound env store n e = bound_relation (relation_of c (callee.Var x) env) vs ps bound env store n e
+  bound_called (callee.Val k) vs ps bound env store n e = bound_relation (relation_of c (callee.Val k) env) vs ps bound env store n e
 
   abbrev ActionBinds : Part → Action → Type 0
-  ActionBinds part action = (env : Env) (bound : List ℕ) → part (bound_in env) ≡ Some bound → (bindings : Bindings) (n : ℕ) → HasBound bound (action env bindings n)
+  ActionBinds part action = (env : Env) (bound : List ℕ) → part (bound_in env) ≡ Some bound → (store : Store) (n : ℕ) → HasBound bound (action env store n)
 
   abbrev GoalBinds : RGoal → Type 0
-  GoalBinds g = ActionBinds (after_goal g) (going p calls g)
+  GoalBinds g = ActionBinds (after_goal g) (going c calls g)
 
-  goal_rolled : (y : RGoal-F RGoal) → ActionBinds (bound_at (map-RGoal RGoal Part after_goal y)) (goal_at p calls (map-RGoal RGoal Action (going p calls) y)) → GoalBinds (roll-RGoal y)
+  goal_rolled : (y : RGoal-F RGoal) → ActionBinds (bound_at (map-RGoal RGoal Part after_goal y)) (goal_action c calls (map-RGoal RGoal Action (going c calls) y)) → GoalBinds (roll-RGoal y)
   goal_rolled y each =
-      subst (λ (part : Part). ActionBinds part (going p calls (roll-RGoal y))) (sym (fold-roll-RGoal Part bound_at y))
-      (subst (λ (action : Action). ActionBinds (bound_at (map-RGoal RGoal Part after_goal y)) action) (sym (fold-roll-RGoal Action (goal_at p calls) y)) each)
+      subst (λ (part : Part). ActionBinds part (going c calls (roll-RGoal y))) (sym (fold-roll-RGoal Part bound_at y))
+      (subst (λ (action : Action). ActionBinds (bound_at (map-RGoal RGoal Part after_goal y)) action) (sym (fold-roll-RGoal Action (goal_action c calls) y)) each)
 
-  turn_on : (g : RGoal) (parts : List Part) (actions : List Action) → GoalBinds g → ActionBinds (parts_in_turn parts) (in_turn actions)
-      → ActionBinds (parts_in_turn (after_goal g ∷ parts)) (in_turn (going p calls g ∷ actions))
-  turn_on g parts actions first more env bound is bindings n =
-      option_and_then_some {P = HasBound bound (in_turn (going p calls g ∷ actions) env bindings n)} (parts_in_turn parts) (after_goal g (bound_in env)) bound is
-      (λ mid here rest. bound_on mid bound (going p calls g env bindings n) (λ s m. in_turn actions s.env s.bindings m) (first env mid here bindings n)
-      (λ s m e. more s.env bound (ap (parts_in_turn parts) e ∙ rest) s.bindings m))
+  turn_on : (g : RGoal) (parts : List Part) (actions : List Action) → GoalBinds g → ActionBinds (parts_in_turn parts) (goals_in_turn actions)
+      → ActionBinds (parts_in_turn (after_goal g ∷ parts)) (goals_in_turn (going c calls g ∷ actions))
+  turn_on g parts actions first more env bound is store n =
+      option_and_then_some {P = HasBound bound (goals_in_turn (going c calls g ∷ actions) env store n)} (parts_in_turn parts) (after_goal g (bound_in env)) bound is
+      (λ mid here rest. bound_on mid bound (going c calls g env store n) (λ s m. goals_in_turn actions s.env s.store m) (first env mid here store n)
+      (λ s m e. more s.env bound (ap (parts_in_turn parts) e ∙ rest) s.store m))
 
-  inner_bind : (gs : List ((x : RGoal) × GoalBinds x)) → ActionBinds (parts_in_turn (map after_goal (map (λ e. e.0) gs))) (in_turn (map (going p calls) (map (λ e. e.0) gs)))
-  inner_bind [] env bound is bindings n = same_Some (bound_in env) bound is
-  inner_bind (e ∷ gs) env bound is bindings n =
-      turn_on e.0 (map after_goal (map (λ e. e.0) gs)) (map (going p calls) (map (λ e. e.0) gs)) e.1 (inner_bind gs) env bound is bindings n
+  inner_bind : (gs : List ((x : RGoal) × GoalBinds x)) → ActionBinds (parts_in_turn (map after_goal (map (λ e. e.0) gs))) (goals_in_turn (map (going c calls) (map (λ e. e.0) gs)))
+  inner_bind [] env bound is store n = same_Some (bound_in env) bound is
+  inner_bind (e ∷ gs) env bound is store n =
+      turn_on e.0 (map after_goal (map (λ e. e.0) gs)) (map (going c calls) (map (λ e. e.0) gs)) e.1 (inner_bind gs) env bound is store n
 
   outside : (o : Option (List ℕ)) (x y : List ℕ) → option_map (λ (inside : List ℕ). x) o ≡ Some y → x ≡ y
   outside None x y h = absurd (cc)
@@ -274,31 +279,31 @@ module _ (p : Program) (calls : RelationCalls) where
   goal_layer : (y : RGoal-F ((x : RGoal) × GoalBinds x)) → GoalBinds (roll-RGoal (map-RGoal ((x : RGoal) × GoalBinds x) RGoal (λ e. e.0) y))
   goal_layer (RGoal-F.Call f es ps) =
       goal_rolled (RGoal-F.Call f es ps)
-      (λ env bound is bindings n.
+      (λ env bound is store n.
       let used = cond_some (can_use (callee_uses f ++ all_use es) (bound_in env)) (bound_in env ++ all_bind ps) bound is in
-      bound_with bound (values_of p es env) (λ vs. called p calls f vs ps env bindings) n (λ vs. bound_called f vs ps bound env bindings n used.1))
+      bound_with bound (values_of c es env) (λ vs. called c calls f vs ps env store) n (λ vs. bound_called f vs ps bound env store n used.1))
   goal_layer (RGoal-F.Equal a b) =
       goal_rolled (RGoal-F.Equal a b)
-      (λ env bound is bindings n.
+      (λ env bound is store n.
       let used = cond_some (can_use (uses a ++ uses b) (bound_in env)) (bound_in env ++ []) bound is in
-      bound_with bound (value_of p a env) _ n (λ v. bound_with bound (value_of p b env) _ n (λ w. bound_same (same v w) bound env bindings n (sym (append-nil (bound_in env)) ∙ used.1))))
+      bound_with bound (value_of c a env) _ n (λ v. bound_with bound (value_of c b env) _ n (λ w. bound_same (same v w) bound env store n (sym (append-nil (bound_in env)) ∙ used.1))))
   goal_layer (RGoal-F.Let q e) =
       goal_rolled (RGoal-F.Let q e)
-      (λ env bound is bindings n.
+      (λ env bound is store n.
       let used = cond_some (can_use (uses e) (bound_in env)) (bound_in env ++ binds q) bound is in
-      bound_with bound (value_of p e env) _ n (λ v. bound_match env (binds q) bound (matching p.names q v env) bindings n used.1 (match_binds p.names q v env)))
+      bound_with bound (value_of c e env) _ n (λ v. bound_match env (binds q) bound (matching c.names q v env) store n used.1 (match_binds c.names q v env)))
   goal_layer (RGoal-F.Not e) =
       goal_rolled (RGoal-F.Not e.0)
-      (λ env bound is bindings n. bound_unless bound (going p calls e.0 env bindings n) (step p (goes_on env bindings))
-      (λ m. bound_step p bound (goes_on env bindings) m (λ i. outside (after_goal e.0 (bound_in env)) (bound_in env) bound is)))
+      (λ env bound is store n. bound_unless bound (going c calls e.0 env store n) (weighted_step c.step_weight (goes_on env store))
+      (λ m. bound_step c.step_weight bound (goes_on env store) m (λ i. outside (after_goal e.0 (bound_in env)) (bound_in env) bound is)))
   goal_layer (RGoal-F.All gs) = goal_rolled (RGoal-F.All (map (λ e. e.0) gs)) (inner_bind gs)
 
   pub goal_binds : (g : RGoal) → GoalBinds g
   goal_binds = ind-RGoal GoalBinds (λ x y is. subst (λ z. GoalBinds (roll-RGoal z)) is (goal_layer y))
 
-  pub goals_bind : (gs : List RGoal) → ActionBinds (after_goals gs) (going_all p calls gs)
-  goals_bind [] env bound is bindings n = same_Some (bound_in env) bound is
-  goals_bind (g ∷ gs) env bound is bindings n = turn_on g (map after_goal gs) (map (going p calls) gs) (goal_binds g) (goals_bind gs) env bound is bindings n
+  pub goals_bind : (gs : List RGoal) → ActionBinds (after_goals gs) (going_all c calls gs)
+  goals_bind [] env bound is store n = same_Some (bound_in env) bound is
+  goals_bind (g ∷ gs) env bound is store n = turn_on g (map after_goal gs) (map (going c calls) gs) (goal_binds g) (goals_bind gs) env bound is store n
 
 -- ---- where goals stand
 
@@ -334,12 +339,12 @@ around (x ∷ front) back g first last h =
     record { before = more.before; behind = more.behind; comes = ap (option_and_then (after_goals front)) here ∙ more.comes; goes = more.goes })
 
 -- a goal among others that are searched in turn, behind those that gave an answer
-ready_among : (p : Program) (calls : RelationCalls) (vars : ℕ) (front back : List RGoal) (g : RGoal) (env : Env) (bindings : Bindings) (n m : ℕ) (s : After) (t : Trace) (last : List ℕ)
+ready_among : (p : Program) (calls : RelationCalls) (vars : ℕ) (front back : List RGoal) (g : RGoal) (env : Env) (store : Store) (n m : ℕ) (s : State) (t : Trace) (last : List ℕ)
     → goals_fit (counts_of p.names p.vals p.rels) p.cons vars (front ++ g ∷ back) ≡ true → after_goals (front ++ g ∷ back) (bound_in env) ≡ Some last
-    → going_all p calls front env bindings n ≡ Yes s t m → Ready p s.env g
-ready_among p calls vars front back g env bindings n m s t last fits uses_them answers =
+    → going_all (context_of p) calls front env store n ≡ Yes s t m → Ready p s.env g
+ready_among p calls vars front back g env store n m s t last fits uses_them answers =
     let part = around front back g (bound_in env) last uses_them in
-    let held : bound_in s.env ≡ part.before = subst (λ (w : Went After). HasBound part.before w) answers (goals_bind p calls front env part.before part.comes bindings n) in
+    let held : bound_in s.env ≡ part.before = subst (λ (w : Partial State). HasBound part.before w) answers (goals_bind (context_of p) calls front env part.before part.comes store n) in
     record {
       vars = vars;
       fits = fits_among p vars front back g fits;
@@ -388,37 +393,37 @@ module _ (p : Program) (calls : RelationCalls) where
       let held = inside_some (after_goal g (bound_in env)) (bound_in env) ready.bound used in
       record { vars = ready.vars; fits = fits; bound = held.0; uses_them = held.1 }
 
-  inside_brackets : (front back : List RGoal) (g : RGoal) (env : Env) (bindings : Bindings) (n m : ℕ) (s : After) (t : Trace)
-      → Ready p env (All (front ++ g ∷ back)) → going_all p calls front env bindings n ≡ Yes s t m → Ready p s.env g
-  inside_brackets front back g env bindings n m s t ready answers =
+  inside_brackets : (front back : List RGoal) (g : RGoal) (env : Env) (store : Store) (n m : ℕ) (s : State) (t : Trace)
+      → Ready p env (All (front ++ g ∷ back)) → going_all (context_of p) calls front env store n ≡ Yes s t m → Ready p s.env g
+  inside_brackets front back g env store n m s t ready answers =
       let gs : List RGoal = front ++ g ∷ back in
       let fit = goal_fits (counts_of p.names p.vals p.rels) p.cons ready.vars in
       let fits : goals_fit (counts_of p.names p.vals p.rels) p.cons ready.vars gs ≡ true = sym (ap fit (sym (rolls-All gs)) ∙ fold-roll-RGoal Bool (fits_at (counts_of p.names p.vals p.rels) p.cons ready.vars) (RGoal-F.All gs)) ∙ ready.fits in
       let part : after_goal (All gs) ≡ after_goals gs = ap after_goal (sym (rolls-All gs)) ∙ fold-roll-RGoal Part bound_at (RGoal-F.All gs) in
       let used : after_goals gs (bound_in env) ≡ Some ready.bound = sym (ap (λ (x : Part). x (bound_in env)) part) ∙ ready.uses_them in
-      ready_among p calls ready.vars front back g env bindings n m s t ready.bound fits used answers
+      ready_among p calls ready.vars front back g env store n m s t ready.bound fits used answers
 
   ready_where : {g : RGoal} {env : Env} → Stands p calls g env → Ready p env g
-  ready_where (in_rule r rule vs env front back g bindings n m s t in_program in_relation matches is answers) =
+  ready_where (in_rule r rule vs env front back g store n m s t in_program in_relation matches is answers) =
       let holds = rule_holds p r rule in_program in_relation in
       let fits = subst (λ (gs : List RGoal). goals_fit (counts_of p.names p.vals p.rels) p.cons rule.vars gs ≡ true) is holds.goals in
       let used : after_goals (front ++ g ∷ back) (bound_in env) ≡ Some holds.last =
       ap (λ (gs : List RGoal). after_goals gs (bound_in env)) (sym is) ∙ ap (after_goals rule.goals) (head_bound p rule.inputs vs env matches) ∙ holds.premises in
-      ready_among p calls rule.vars front back g env bindings n m s t holds.last fits used answers
+      ready_among p calls rule.vars front back g env store n m s t holds.last fits used answers
   ready_where (in_not g env stands) = inside_not g env (ready_where stands)
-  ready_where (in_brackets front back g env bindings n m s t stands answers) = inside_brackets front back g env bindings n m s t (ready_where stands) answers
+  ready_where (in_brackets front back g env store n m s t stands answers) = inside_brackets front back g env store n m s t (ready_where stands) answers
 
   -- ---- the values of its callee and its expressions
 
   abbrev ReadyValues : RGoal → Type 0
-  ReadyValues g = (env : Env) → Ready p env g → HasValues p env (out-RGoal g)
+  ReadyValues g = (env : Env) → Ready p env g → HasValues (context_of p) env (out-RGoal g)
 
   values_rolled : (y : RGoal-F RGoal)
       → ((env : Env) (vars : ℕ) (bound : List ℕ) → fits_at (counts_of p.names p.vals p.rels) p.cons vars (map-RGoal RGoal Bool (goal_fits (counts_of p.names p.vals p.rels) p.cons vars) y) ≡ true
-      → bound_at (map-RGoal RGoal Part after_goal y) (bound_in env) ≡ Some bound → HasValues p env y)
+      → bound_at (map-RGoal RGoal Part after_goal y) (bound_in env) ≡ Some bound → HasValues (context_of p) env y)
       → ReadyValues (roll-RGoal y)
   values_rolled y each env ready =
-      subst (λ (z : RGoal-F RGoal). HasValues p env z) (sym (out-roll-RGoal y))
+      subst (λ (z : RGoal-F RGoal). HasValues (context_of p) env z) (sym (out-roll-RGoal y))
       (each env ready.vars ready.bound
       (sym (fold-roll-RGoal Bool (fits_at (counts_of p.names p.vals p.rels) p.cons ready.vars) y) ∙ ready.fits)
       (sym (ap (λ (x : Part). x (bound_in env)) (fold-roll-RGoal Part bound_at y)) ∙ ready.uses_them))
@@ -427,7 +432,7 @@ module _ (p : Program) (calls : RelationCalls) where
   each_used : (xs ys bound : List ℕ) → can_use (xs ++ ys) bound ≡ true → Both (can_use xs bound) (can_use ys bound)
   each_used xs ys bound h = both (can_use xs bound) (can_use ys bound) (sym (list_all-append (λ x. contains x bound) xs ys) ∙ h)
 
-  callee_valued : (vars : ℕ) (f : Callee) (env : Env) → callee_fits (counts_of p.names p.vals p.rels) vars f ≡ true → can_use (callee_uses f) (bound_in env) ≡ true → CalleeHasValue p env f
+  callee_valued : (vars : ℕ) (f : Callee) (env : Env) → callee_fits (counts_of p.names p.vals p.rels) vars f ≡ true → can_use (callee_uses f) (bound_in env) ≡ true → CalleeHasValue (context_of p) env f
   callee_valued vars (callee.Rel r) env fits used = tt
   callee_valued vars (callee.Built k) env fits used = tt
   callee_valued vars (callee.Var x) env fits used = found_in x env (passes (λ y. contains y (bound_in env)) (x ∷ []) x used (0, omega arith, refl))
@@ -462,14 +467,14 @@ module _ (p : Program) (calls : RelationCalls) where
   ready_values : (g : RGoal) → ReadyValues g
   ready_values = ind-RGoal ReadyValues (λ x y is. subst (λ z. ReadyValues (roll-RGoal z)) is (values_layer y))
 
-  pub goal_values : (g : RGoal) (env : Env) → Stands p calls g env → HasValues p env (out-RGoal g)
+  pub goal_values : (g : RGoal) (env : Env) → Stands p calls g env → HasValues (context_of p) env (out-RGoal g)
   goal_values g env stands = ready_values g env (ready_where stands)
 
-  pub result_values : (r : RelDef) (rule : RRule) (vs : List Value) (env : Env) (bindings : Bindings) (n m : ℕ) (s : After) (t : Trace)
-      → Contains p.rels r → Contains r.rules rule → matching_all p.names rule.inputs vs [] ≡ matched.Yes env → going_all p calls rule.goals env bindings n ≡ Yes s t m
-      → IsSome (values_of p rule.results s.env)
-  result_values r rule vs env bindings n m s t in_program in_relation matches answers =
+  pub result_values : (r : RelDef) (rule : RRule) (vs : List Value) (env : Env) (store : Store) (n m : ℕ) (s : State) (t : Trace)
+      → Contains p.rels r → Contains r.rules rule → matching_all p.names rule.inputs vs [] ≡ matched.Yes env → going_all (context_of p) calls rule.goals env store n ≡ Yes s t m
+      → IsSome (values_of (context_of p) rule.results s.env)
+  result_values r rule vs env store n m s t in_program in_relation matches answers =
       let holds = rule_holds p r rule in_program in_relation in
       let comes : after_goals rule.goals (bound_in env) ≡ Some holds.last = ap (after_goals rule.goals) (head_bound p rule.inputs vs env matches) ∙ holds.premises in
-      let held : bound_in s.env ≡ holds.last = subst (λ (w : Went After). HasBound holds.last w) answers (goals_bind p calls rule.goals env holds.last comes bindings n) in
+      let held : bound_in s.env ≡ holds.last = subst (λ (w : Partial State). HasBound holds.last w) answers (goals_bind (context_of p) calls rule.goals env holds.last comes store n) in
       all_expressions p rule.vars rule.results s.env holds.results (subst (λ (bound : List ℕ). can_use (all_use rule.results) bound ≡ true) (sym held) holds.uses_them)

@@ -3,15 +3,16 @@ use Rattle.std.proofs.Common.{◌≡◌, ℕ, zero, suc, ◌+◌, ◌-◌, ◌<�
 use Rattle.std.specs.Prelude.{slice_get, sum_by, option_map}
 use Rattle.std.proofs.lemmas.Option.{slice_get_cases, get_or_from_slice_get}
 use Rattle.std.proofs.lemmas.List.Sums.{get_or-le-sum_by}
-use Rattle.rml_resolved.specs.declared.program.Program.{Program}
+use Rattle.rml_resolved.specs.declared.tables.ValDef.{ValDef}
 use Rattle.rml_value.specs.declared.value.Value.{Value}
 use Rattle.rml_resolved.specs.declared.trees.RExp.{RExp}
 use Rattle.rml_search.specs.Matching.{Env}
 use Rattle.rml_search.specs.Values.{Evaluation, meaning, with_first, all_of, val_in, vals_to}
 
-pub vals_to-some : (p : Program) (depth k : ℕ) → 0 < depth → vals_to p depth k ≡ val_in (slice_get p.vals k) (λ e. meaning p.names (vals_to p (depth - 1)) e [])
-vals_to-some p zero k h = absurd (omega arith)
-vals_to-some p (suc depth) k h = let e : suc depth - 1 ≡ depth = omega arith in rw e refl
+pub vals_to-some : (names : List (List ℕ)) (vals : List ValDef) (depth k : ℕ) → 0 < depth
+    → vals_to names vals depth k ≡ val_in (slice_get vals k) (λ e. meaning names (vals_to names vals (depth - 1)) e [])
+vals_to-some names vals zero k h = absurd (omega arith)
+vals_to-some names vals (suc depth) k h = let e : suc depth - 1 ≡ depth = omega arith in rw e refl
 
 pub part-le : {X : Type 0} (f : X → ℕ) (xs : List X) (i : ℕ) (x : X) → slice_get xs i ≡ Some x → f x ≤ sum_by f xs
 part-le f xs i x e =

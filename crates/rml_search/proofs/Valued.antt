@@ -28,6 +28,7 @@ use Rattle.rml_resolved.proofs.Rounds.{by_rounds}
 use Rattle.rml_resolved.proofs.Variables.{passes}
 use Rattle.rml_search.specs.Matching.{Env}
 use Rattle.rml_search.specs.Values.{look, bound_in, value_of_lit, Evaluation, with_first, all_of, chain_of, value_at, meaning, val_in, vals_to, val_of, value_of, values_of}
+use Rattle.rml_search.specs.Whole.{context_of}
 
 -- ---- over other vals
 
@@ -170,19 +171,19 @@ val_same_at p f g None agree = refl
 val_same_at p f g (Some def) agree = same_value p.names f g def.value agree []
 
 -- once all that a val needs has its value at a depth, the val has its own at the next
-settled : (p : Program) (k : ℕ) → k < length p.vals → vals_to p (length p.vals) k ≡ vals_to p (suc (length p.vals)) k
+settled : (p : Program) (k : ℕ) → k < length p.vals → vals_to p.names p.vals (length p.vals) k ≡ vals_to p.names p.vals (suc (length p.vals)) k
 settled p k inside =
     let vals : List (List ℕ) = map val_needs p.vals in
     let count : length vals ≡ length p.vals = length-map p.vals val_needs in
-    subst (λ (n : ℕ). vals_to p n k ≡ vals_to p (suc n) k) count
-    (by_rounds vals (λ n i. vals_to p n i ≡ vals_to p (suc n) i) p.vals_end
-    (λ n i less agree. val_same_at p (vals_to p n) (vals_to p (suc n)) (slice_get p.vals i) (λ j there. agree j (needs_at p i j there))) k (omega arith))
+    subst (λ (n : ℕ). vals_to p.names p.vals n k ≡ vals_to p.names p.vals (suc n) k) count
+    (by_rounds vals (λ n i. vals_to p.names p.vals n i ≡ vals_to p.names p.vals (suc n) i) p.vals_end
+    (λ n i less agree. val_same_at p (vals_to p.names p.vals n) (vals_to p.names p.vals (suc n)) (slice_get p.vals i) (λ j there. agree j (needs_at p i j there))) k (omega arith))
 
-off : (p : Program) (n k : ℕ) → slice_get p.vals k ≡ None → vals_to p n k ≡ None
+off : (p : Program) (n k : ℕ) → slice_get p.vals k ≡ None → vals_to p.names p.vals n k ≡ None
 off p zero k h = refl
-off p (suc n) k h = ap (λ (o : Option ValDef). val_in o (λ e. meaning p.names (vals_to p n) e [])) h
+off p (suc n) k h = ap (λ (o : Option ValDef). val_in o (λ e. meaning p.names (vals_to p.names p.vals n) e [])) h
 
-pub val_is_its_expression : (p : Program) (k : ℕ) → val_of p k ≡ val_in (slice_get p.vals k) (λ e. value_of p e [])
+pub val_is_its_expression : (p : Program) (k : ℕ) → (context_of p).vals k ≡ val_in (slice_get p.vals k) (λ e. value_of (context_of p) e [])
 val_is_its_expression p k =
     elim (slice_get_cases p.vals k).1 [
       | inl w ↦ settled p k w.1
@@ -193,26 +194,26 @@ valued_in : (o : Option ValDef) (def : ValDef) (go : RExp → Option Value) → 
 valued_in o def go is h = subst (λ (x : Option ValDef). IsSome (val_in x go)) (sym is) h
 
 -- a val has a value at the depth after that at which all that it needs has one
-valued_next : (p : Program) (n k : ℕ) → k < length p.vals → ((j : ℕ) → Needs (map val_needs p.vals) k j → IsSome (vals_to p n j)) → IsSome (vals_to p (suc n) k)
+valued_next : (p : Program) (n k : ℕ) → k < length p.vals → ((j : ℕ) → Needs (map val_needs p.vals) k j → IsSome (vals_to p.names p.vals n j)) → IsSome (vals_to p.names p.vals (suc n) k)
 valued_next p n k inside each =
     elim (slice_get_cases p.vals k).1 [
       | inl w ↦ (let def : ValDef = w.0 in
           let counts = counts_of p.names p.vals p.rels in
           let there : Contains p.vals def = subst (λ (d : ValDef). Contains p.vals d) w.3 (Contains-get_or p.vals k def inside) in
           let fits = passes (val_fits counts p.types p.cons) p.vals def p.vals_fit there in
-          valued_in (slice_get p.vals k) def (λ e. meaning p.names (vals_to p n) e []) w.2
-          (has_value p.names (vals_to p n) counts p.cons 0 [] refl def.value (both _ (exp_fits counts p.cons 0 def.value) fits).second
+          valued_in (slice_get p.vals k) def (λ e. meaning p.names (vals_to p.names p.vals n) e []) w.2
+          (has_value p.names (vals_to p.names p.vals n) counts p.cons 0 [] refl def.value (both _ (exp_fits counts p.cons 0 def.value) fits).second
           (λ j less needed. each j (needs_at p k j (subst (λ (o : Option ValDef). Contains (unwrap_or (option_map val_needs o) []) j) (sym w.2) needed)))
           (λ x less used. absurd (omega arith))))
       | inr w ↦ absurd (let past = w.0 in omega arith)
     ]
 
-pub each_val : (p : Program) (k : ℕ) → k < length p.vals → IsSome (val_of p k)
+pub each_val : (p : Program) (k : ℕ) → k < length p.vals → IsSome ((context_of p).vals k)
 each_val p k inside =
     let vals : List (List ℕ) = map val_needs p.vals in
     let count : length vals ≡ length p.vals = length-map p.vals val_needs in
-    subst (λ (n : ℕ). IsSome (vals_to p n k)) count
-    (by_rounds vals (λ n i. IsSome (vals_to p n i)) p.vals_end (λ n i less each. valued_next p n i (omega arith) each) k (omega arith))
+    subst (λ (n : ℕ). IsSome (vals_to p.names p.vals n k)) count
+    (by_rounds vals (λ n i. IsSome (vals_to p.names p.vals n i)) p.vals_end (λ n i less each. valued_next p n i (omega arith) each) k (omega arith))
 
 -- ---- expressions of a program, where their variables are bound
 
@@ -225,17 +226,17 @@ found_in x [] h = absurd (cc)
 found_in x (b ∷ env) h = found_if (x == b.var) (contains x (bound_in env)) b.value (look x env) h (found_in x env)
 
 pub each_expression : (p : Program) (vars : ℕ) (e : RExp) (env : Env)
-    → IsTrue (exp_fits (counts_of p.names p.vals p.rels) p.cons vars e) → IsTrue (can_use (uses e) (bound_in env)) → IsSome (value_of p e env)
+    → IsTrue (exp_fits (counts_of p.names p.vals p.rels) p.cons vars e) → IsTrue (can_use (uses e) (bound_in env)) → IsSome (value_of (context_of p) e env)
 each_expression p vars e env fits usable =
-    has_value p.names (val_of p) (counts_of p.names p.vals p.rels) p.cons vars env refl e fits
+    has_value p.names (val_of p.names p.vals) (counts_of p.names p.vals p.rels) p.cons vars env refl e fits
     (λ k less there. each_val p k less)
     (λ x less there. found_in x env (passes (λ y. contains y (bound_in env)) (uses e) x usable there))
 
 pub all_expressions : (p : Program) (vars : ℕ) (es : List RExp) (env : Env)
-    → IsTrue (exps_fit (counts_of p.names p.vals p.rels) p.cons vars es) → IsTrue (can_use (all_use es) (bound_in env)) → IsSome (values_of p es env)
+    → IsTrue (exps_fit (counts_of p.names p.vals p.rels) p.cons vars es) → IsTrue (can_use (all_use es) (bound_in env)) → IsSome (values_of (context_of p) es env)
 all_expressions p vars [] env fits usable = refl
 all_expressions p vars (e ∷ es) env fits usable =
     let counts = counts_of p.names p.vals p.rels in
     let two = both (exp_fits counts p.cons vars e) (exps_fit counts p.cons vars es) fits in
     let used = both (can_use (uses e) (bound_in env)) (can_use (all_use es) (bound_in env)) (sym (list_all-append (λ x. contains x (bound_in env)) (uses e) (all_use es)) ∙ usable) in
-    some_first (value_of p e env) (values_of p es env) (each_expression p vars e env two.first used.first) (all_expressions p vars es env two.second used.second)
+    some_first (value_of (context_of p) e env) (values_of (context_of p) es env) (each_expression p vars e env two.first used.first) (all_expressions p vars es env two.second used.second)

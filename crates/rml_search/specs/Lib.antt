@@ -1,11 +1,14 @@
 pub mod Matching
 pub mod Lists
+pub mod Context
 pub mod Values
 pub mod Search
+pub mod Whole
+pub mod Given
+pub mod Parts
 pub mod Standing
 pub mod Walk
 pub mod Runs
 pub mod Growing
 pub mod Weights
-pub mod Shown
 pub mod Size

@@ -10,13 +10,13 @@ use Rattle.rml_value.specs.declared.value.Value.TheOpen.{Value-F}
 use Rattle.rml_value.specs.declared.value.TheConstants.{NIL, CONS}
 use Rattle.rml_resolved.specs.declared.trees.RPat.{RPat, fold-RPat}
 use Rattle.rml_resolved.specs.declared.trees.RPat.TheOpen.{RPat-F}
-use Rattle.rml_search.specs.declared.state.Bound.{Bound}
+use Rattle.rml_search.specs.declared.state.Binding.{Binding}
 use Rattle.rml_search.specs.declared.state.Matched.{Matched}
 use Rattle.rml_search.specs.declared.state.Matched.TheVariants.{Yes, No, Wrong}
 
 -- what the variables of a rule stand for, in the order in which they were bound
 abbrev pub Env : Type 0
-Env = List Bound
+Env = List Binding
 
 abbrev pub bind : ℕ → Value → Env → Env
 bind x v env = env ++ record { var = x; value = v } ∷ []
@@ -30,14 +30,14 @@ then_match No go = No
 then_match Wrong go = Wrong
 
 -- from left to right, up to the first that does not match or is Wrong
-abbrev pub in_turn : List Matcher → List Value → Env → Matched
-in_turn [] [] env = Yes env
-in_turn (p ∷ ps) (v ∷ vs) env = then_match (p v env) (in_turn ps vs)
-in_turn _ _ env = Wrong
+abbrev pub match_in_turn : List Matcher → List Value → Env → Matched
+match_in_turn [] [] env = Yes env
+match_in_turn (p ∷ ps) (v ∷ vs) env = then_match (p v env) (match_in_turn ps vs)
+match_in_turn _ _ env = Wrong
 
 -- patterns and values are as many, or it is Wrong before any is matched
 abbrev pub match_all : List Matcher → List Value → Env → Matched
-match_all ps vs env = if length ps == length vs then in_turn ps vs env else Wrong
+match_all ps vs env = if length ps == length vs then match_in_turn ps vs env else Wrong
 
 abbrev pub when : Bool → Env → Matched
 when b env = if b then Yes env else No

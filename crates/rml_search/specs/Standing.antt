@@ -1,9 +1,11 @@
 -- What is bound after a match and after goals, and where the goals of a program's rules stand in a search.
 use Rattle.std.specs.Prelude.{◌≡◌, ℕ, List, [], ◌∷◌, ◌++◌, IsSome}
 use Rattle.std.specs.List.{Contains}
-use Rattle.rml_base.specs.Went.{Trace, Went, Yes}
+use Rattle.rml_simulation.specs.declared.partial.Trace.{Trace}
+use Rattle.rml_simulation.specs.declared.partial.Partial.{Partial}
+use Rattle.rml_simulation.specs.declared.partial.Partial.TheVariants.{Yes}
 use Rattle.rml_value.specs.declared.value.Value.{Value}
-use Rattle.rml_builtin.specs.Given.{Bindings}
+use Rattle.rml_builtin.specs.Applied.{Store}
 use Rattle.rml_resolved.specs.declared.program.Program.{Program}
 use Rattle.rml_resolved.specs.declared.tables.RelDef.{RelDef}
 use Rattle.rml_resolved.specs.declared.tables.RRule.{RRule}
@@ -14,10 +16,12 @@ use Rattle.rml_resolved.specs.declared.trees.RGoal.TheOpen.{RGoal-F}
 use Rattle.rml_resolved.specs.declared.trees.RGoal.TheVariants.{Not, All}
 use Rattle.rml_search.specs.declared.state.Matched.{Matched}
 use Rattle.rml_search.specs.declared.state.Matched.TheVariants as matched
-use Rattle.rml_search.specs.declared.state.After.{After}
+use Rattle.rml_search.specs.declared.state.State.{State}
 use Rattle.rml_search.specs.Matching.{Env, matching_all}
-use Rattle.rml_search.specs.Values.{look, bound_in, val_of, value_of, values_of}
+use Rattle.rml_search.specs.Context.{Context}
+use Rattle.rml_search.specs.Values.{look, bound_in, value_of, values_of}
 use Rattle.rml_search.specs.Search.{RelationCalls, going_all}
+use Rattle.rml_search.specs.Whole.{context_of}
 
 -- where a match is Yes, these are bound behind what was bound before
 abbrev pub BindsAlso : Env → List ℕ → Matched → Type 0
@@ -26,31 +30,31 @@ BindsAlso env xs matched.No = Unit {0}
 BindsAlso env xs matched.Wrong = Unit {0}
 
 -- where there is an answer, these are bound
-abbrev pub HasBound : List ℕ → Went After → Type 0
+abbrev pub HasBound : List ℕ → Partial State → Type 0
 HasBound bound (Yes s t n) = bound_in s.env ≡ bound
 HasBound bound _ = Unit {0}
 
 -- a goal comes to be searched with an environment: as a premise of a rule whose head matched, behind premises that gave an
 -- answer; inside a `not`; or in brackets, behind goals that gave an answer
 pub data Stands (p : Program) (calls : RelationCalls) : RGoal → Env → Type 0 where
-  in_rule : (r : RelDef) (rule : RRule) (vs : List Value) (env : Env) (front back : List RGoal) (g : RGoal) (bindings : Bindings) (n m : ℕ) (s : After) (t : Trace)
+  in_rule : (r : RelDef) (rule : RRule) (vs : List Value) (env : Env) (front back : List RGoal) (g : RGoal) (store : Store) (n m : ℕ) (s : State) (t : Trace)
       → Contains p.rels r → Contains r.rules rule → matching_all p.names rule.inputs vs [] ≡ matched.Yes env → rule.goals ≡ front ++ g ∷ back
-      → going_all p calls front env bindings n ≡ Yes s t m → Stands p calls g s.env
+      → going_all (context_of p) calls front env store n ≡ Yes s t m → Stands p calls g s.env
   in_not : (g : RGoal) (env : Env) → Stands p calls (Not g) env → Stands p calls g env
-  in_brackets : (front back : List RGoal) (g : RGoal) (env : Env) (bindings : Bindings) (n m : ℕ) (s : After) (t : Trace)
-      → Stands p calls (All (front ++ g ∷ back)) env → going_all p calls front env bindings n ≡ Yes s t m → Stands p calls g s.env
+  in_brackets : (front back : List RGoal) (g : RGoal) (env : Env) (store : Store) (n m : ℕ) (s : State) (t : Trace)
+      → Stands p calls (All (front ++ g ∷ back)) env → going_all (context_of p) calls front env store n ≡ Yes s t m → Stands p calls g s.env
 
 -- a callee that is a variable or a val has a value; relations and built-ins are named by their numbers
-abbrev pub CalleeHasValue : Program → Env → Callee → Type 0
-CalleeHasValue p env (callee.Rel r) = Unit {0}
-CalleeHasValue p env (callee.Built k) = Unit {0}
-CalleeHasValue p env (callee.Var x) = IsSome (look x env)
-CalleeHasValue p env (callee.Val k) = IsSome (val_of p k)
+abbrev pub CalleeHasValue : Context → Env → Callee → Type 0
+CalleeHasValue c env (callee.Rel r) = Unit {0}
+CalleeHasValue c env (callee.Built k) = Unit {0}
+CalleeHasValue c env (callee.Var x) = IsSome (look x env)
+CalleeHasValue c env (callee.Val k) = IsSome (c.vals k)
 
 -- the callee and the expressions of a goal have values, those of the goals in it aside
-abbrev pub HasValues : Program → Env → RGoal-F RGoal → Type 0
-HasValues p env (RGoal-F.Call f es ps) = CalleeHasValue p env f × IsSome (values_of p es env)
-HasValues p env (RGoal-F.Equal a b) = IsSome (value_of p a env) × IsSome (value_of p b env)
-HasValues p env (RGoal-F.Let q e) = IsSome (value_of p e env)
-HasValues p env (RGoal-F.Not g) = Unit {0}
-HasValues p env (RGoal-F.All gs) = Unit {0}
+abbrev pub HasValues : Context → Env → RGoal-F RGoal → Type 0
+HasValues c env (RGoal-F.Call f es ps) = CalleeHasValue c env f × IsSome (values_of c es env)
+HasValues c env (RGoal-F.Equal a b) = IsSome (value_of c a env) × IsSome (value_of c b env)
+HasValues c env (RGoal-F.Let q e) = IsSome (value_of c e env)
+HasValues c env (RGoal-F.Not g) = Unit {0}
+HasValues c env (RGoal-F.All gs) = Unit {0}

@@ -6,12 +6,12 @@ use Rattle.rml_value.specs.declared.value.Value.{Value}
 use Rattle.rml_value.specs.declared.value.Value.TheVariants as value
 use Rattle.rml_value.specs.declared.value.TheConstants.{CONS}
 use Rattle.rml_value.specs.Lists.{list_of}
-use Rattle.rml_resolved.specs.declared.program.Program.{Program}
 use Rattle.rml_resolved.specs.declared.tables.ValDef.{ValDef}
 use Rattle.rml_resolved.specs.declared.trees.RExp.{RExp, fold-RExp}
 use Rattle.rml_resolved.specs.declared.trees.RExp.TheOpen.{RExp-F}
-use Rattle.rml_search.specs.declared.state.Bound.{Bound}
+use Rattle.rml_search.specs.declared.state.Binding.{Binding}
 use Rattle.rml_search.specs.Matching.{Env}
+use Rattle.rml_search.specs.Context.{Context}
 
 -- what a variable stands for
 abbrev pub look : ℕ → Env → Option Value
@@ -20,7 +20,7 @@ look x (b ∷ env) = if x == b.var then Some b.value else look x env
 
 -- the variables that stand for something
 abbrev pub bound_in : Env → List ℕ
-bound_in env = map (λ (b : Bound). b.var) env
+bound_in env = map (λ (b : Binding). b.var) env
 
 abbrev pub value_of_lit : List (List ℕ) → Lit → Option Value
 value_of_lit names (lit.Int n) = Some (value.Int n)
@@ -66,16 +66,19 @@ abbrev pub val_in : Option ValDef → (RExp → Option Value) → Option Value
 val_in None go = None
 val_in (Some def) go = go def.value
 
-abbrev pub vals_to : Program → ℕ → ℕ → Option Value
-vals_to p zero k = None
-vals_to p (suc depth) k = val_in (slice_get p.vals k) (λ e. meaning p.names (vals_to p depth) e [])
+-- where vals need one another so deep at most
+abbrev pub vals_to : List (List ℕ) → List ValDef → ℕ → ℕ → Option Value
+vals_to names vals zero k = None
+vals_to names vals (suc depth) k = val_in (slice_get vals k) (λ e. meaning names (vals_to names vals depth) e [])
 
 -- a val needs no more others than there are
-abbrev pub val_of : Program → ℕ → Option Value
-val_of p = vals_to p (length p.vals)
+abbrev pub val_of : List (List ℕ) → List ValDef → ℕ → Option Value
+val_of names vals = vals_to names vals (length vals)
 
-abbrev pub value_of : Program → RExp → Evaluation
-value_of p = meaning p.names (val_of p)
+-- ---- in a context
 
-abbrev pub values_of : Program → List RExp → Env → Option (List Value)
-values_of p es env = all_of (map (value_of p) es) env
+abbrev pub value_of : Context → RExp → Evaluation
+value_of c = meaning c.names c.vals
+
+abbrev pub values_of : Context → List RExp → Env → Option (List Value)
+values_of c es env = all_of (map (value_of c) es) env

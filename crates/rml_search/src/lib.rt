@@ -9,11 +9,13 @@ mod patterns;
 mod plain;
 mod run;
 mod state;
+mod tables;
 pub mod value_laws;
 mod values;
 
 pub use meaning::Searched;
 pub use patterns::{match_each, matching};
-pub use run::search;
-pub use state::{After, Bound, Env, Matched};
+pub use run::{PlainRun, search};
+pub use state::{Binding, Env, Matched, State};
+pub use tables::{Tables, tables_of};
 pub use values::{find, val_of, value_of, values_of};

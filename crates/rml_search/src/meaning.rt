@@ -11,9 +11,9 @@ pub struct Searched {
 
 impl Meaning for Searched {
     ghost use Rattle.rml_search.specs.Runs.{runs_of};
-    ghost use Rattle.rml_search.specs.Growing.{runs_are_steady};
+    ghost use Rattle.rml_search.specs.Growing.{runs_are_monotone};
 
     ghost runs = { λ s. runs_of s.program };
 
-    ghost steady = { λ s. runs_are_steady s.program };
+    ghost monotone = { λ s args cells bytes. runs_are_monotone s.program args cells };
 }

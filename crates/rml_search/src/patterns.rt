@@ -6,7 +6,7 @@ ghost use Rattle.rml_value.specs.declared.value.TheConstants as constants;
 ghost use Rattle.rml_search.specs.Matching.{bind, when as when_holds, matching as matching_of, matching_all, match_all, match_lit, match_con, match_list as list_matched, match_chain as chain_matched};
 ghost use Rattle.rml_search.specs.Lists.{parts_at, head_of, tail_of};
 
-use crate::state::{Bound, Env, Matched, Parts};
+use crate::state::{Binding, Env, Matched, Parts};
 use rml_base::{Bytes, Memory};
 use rml_resolved::RPat;
 use rml_syntax::Lit;
@@ -20,7 +20,7 @@ fn with(alloc: Global, x: u32, value: &Value, env: Env) -> Result<Env, Memory>
 {
     let mut env = env;
     let value = copy(alloc, value)?;
-    env.push(Bound { var: x, value })?;
+    env.push(Binding { var: x, value })?;
     Ok(env)
 }
 

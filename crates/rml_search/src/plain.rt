@@ -1,123 +1,140 @@
 //! The plain search. It owns what it holds, and copies it where a rule or a `not` may have to go back.
 
-ghost use Rattle.std.specs.Prelude.{◌≡◌, ◌≤◌, IfOk, sum_by};
-ghost use Rattle.rml_search.specs.Size.{goals_size, program_size};
-ghost use Rattle.rml_search.specs.Search.{answer, taken as taken_by, from_match, from_built_in, relation_of, relation_called, call as call_of, going, going_all, called as called_by, relations_to, try, by_rule as rule_gives, search_of};
-ghost use Rattle.rml_search.specs.Shown.{shown, told_after, told_then};
+ghost use Rattle.std.specs.Prelude.{◌≡◌, ◌≤◌, IfOk, slice_get, sum_by};
+ghost use Rattle.rml_simulation.specs.Partial.{then_go};
+ghost use Rattle.rml_builtin.specs.declared.row.TheConstants.{ROWS};
+ghost use Rattle.rml_search.specs.Size.{goals_size, relations_size};
+ghost use Rattle.rml_search.specs.Given.{context_in, relations_in};
+ghost use Rattle.rml_search.specs.Whole.{rules_of};
+ghost use Rattle.rml_search.specs.Search.{step_trace, weighted_step, goes_on, made_at, answer, taken as taken_by, from_match, from_built_in, relation_of, relation_called, call as call_of, going, going_all, called as called_by, try, by_rule as rule_gives, search_in};
 
 use crate::patterns::{match_each, matching};
-use crate::state::{After, Bound, Env, Matched, Text, Went};
+use crate::state::{Binding, Env, Matched, State};
+use crate::tables::Tables;
 use crate::values::{find, val_of, value_of, values_of};
 use rml_base::Memory;
-use rml_builtin::{Answer, Bindings, Given, built_in_at};
-use rml_resolved::{Callee, Program, RExp, RGoal, RPat, RRule};
+use rml_builtin::{Answer, Applied, Store, apply_at, cells_made, row_at};
+use rml_resolved::{Callee, RExp, RGoal, RPat, RRule};
+use rml_simulation::{Partial, Trace, join, no_trace, put_before};
 use rml_value::{Value, copy, equal};
 use sqlite_items::{Items, at};
 use std::alloc::Global;
 
-fn prefixed<A: Drop>(text: Text, went: Went<A>) -> Result<Went<A>, Memory>
-    ensures { IfOk result (λ w. w ≡ told_after text went) }
+/// The trace of a step.
+fn weight_of_step(alloc: Global, tables: &Tables) -> Trace
+    ensures { result ≡ step_trace tables.now.step_weight }
 {
-    let mut text = text;
-    match went {
-        Went::Yes(a, more, n) => {
-            text.append(more)?;
-            Ok(Went::Yes(a, text, n))
-        }
-        Went::No(more, n) => {
-            text.append(more)?;
-            Ok(Went::No(text, n))
-        }
-        Went::Cut(more) => {
-            text.append(more)?;
-            Ok(Went::Cut(text))
-        }
-        Went::Wrong(more) => {
-            text.append(more)?;
-            Ok(Went::Wrong(text))
-        }
+    Trace {
+        text: Items::new(alloc),
+        made: 0,
+        weighed: tables.step_weight,
     }
 }
 
-fn matched(alloc: Global, matched: Matched, bindings: Bindings, n: u32) -> Went<After>
-    ensures { result ≡ shown (from_match matched bindings n) }
+fn matched(alloc: Global, matched: Matched, store: Store, n: u32) -> Partial<State>
+    ensures { result ≡ from_match matched store n }
 {
     match matched {
-        Matched::Yes(env) => Went::Yes(After { env, bindings }, Items::new(alloc), n),
-        Matched::No => Went::No(Items::new(alloc), n),
-        Matched::Wrong => Went::Wrong(Items::new(alloc)),
+        Matched::Yes(env) => Partial::Yes(State { env, store }, no_trace(alloc), n),
+        Matched::No => Partial::No(no_trace(alloc), n),
+        Matched::Wrong => Partial::GoneWrong(no_trace(alloc)),
     }
 }
 
 /// The results of a call against its patterns.
 fn taken(
     alloc: Global,
-    program: &Program,
+    tables: &Tables,
     patterns: &[RPat],
     env: Env,
     given: Answer,
     n: u32,
-) -> Result<Went<After>, Memory>
-    ensures { IfOk result (λ w. w ≡ shown (taken_by program.now patterns.now env given n)) }
+) -> Result<Partial<State>, Memory>
+    ensures { IfOk result (λ w. w ≡ taken_by (context_in tables.now) patterns.now env given n) }
 {
-    let Answer { values, bindings } = given;
-    let names = program.names.as_slice();
-    let outcome = match_each(alloc, names, patterns, values.as_slice(), env)?;
-    Ok(matched(alloc, outcome, bindings, n))
+    let Answer { values, store } = given;
+    let outcome = match_each(alloc, tables.names, patterns, values.as_slice(), env)?;
+    Ok(matched(alloc, outcome, store, n))
+}
+
+/// The cells that the built-in of a number makes where these are its results.
+fn made_by(number: u16, values: &[Value]) -> Result<u64, Memory>
+    ensures { IfOk result (λ cells. cells ≡ made_at (slice_get ROWS number) values.now) }
+{
+    match row_at(number) {
+        None => Ok(0),
+        Some(row) => cells_made(row, values),
+    }
 }
 
 /// What a built-in gave, and its results against the patterns.
-#[tactic(auto, using(crate::proofs::Shown::shown_rules))]
+#[tactic(auto, using(crate::proofs::Traces::trace_rules))]
 fn taken_from(
     alloc: Global,
-    program: &Program,
+    tables: &Tables,
     number: u16,
     patterns: &[RPat],
     env: Env,
-    given: Given,
+    given: Applied,
     n: u32,
-) -> Result<Went<After>, Memory>
-    ensures { IfOk result (λ w. w ≡ shown (from_built_in program.now number patterns.now env given n)) }
+) -> Result<Partial<State>, Memory>
+    ensures { IfOk result (λ w. w ≡ from_built_in (context_in tables.now) number patterns.now env given n) }
 {
     match given {
-        Given::Yes(answer, text) => {
-            let text = Items::from_slice(alloc, text.as_slice())?;
-            prefixed(text, taken(alloc, program, patterns, env, answer, n)?)
+        Applied::Yes(answer, text) => {
+            let trace = Trace {
+                text: Items::from_slice(alloc, text.as_slice())?,
+                made: made_by(number, answer.values.as_slice())?,
+                weighed: 0,
+            };
+            put_before(trace, taken(alloc, tables, patterns, env, answer, n)?)
         }
-        Given::No => Ok(Went::No(Items::new(alloc), n)),
-        Given::Wrong => Ok(Went::Wrong(Items::new(alloc))),
+        Applied::No => Ok(Partial::No(no_trace(alloc), n)),
+        Applied::Wrong => Ok(Partial::GoneWrong(no_trace(alloc))),
     }
 }
 
 /// The values of a rule's results, and a step for the answer.
-#[tactic(auto, using(crate::proofs::Shown::shown_rules))]
+#[tactic(auto, using(crate::proofs::Traces::trace_rules))]
 fn answered(
     alloc: Global,
-    program: &Program,
+    tables: &Tables,
     results: &[RExp],
-    state: After,
+    state: State,
     n: u32,
-) -> Result<Went<Answer>, Memory>
-    ensures { IfOk result (λ w. w ≡ shown (answer program.now results.now state n)) }
+) -> Result<Partial<Answer>, Memory>
+    ensures { IfOk result (λ w. w ≡ answer (context_in tables.now) results.now state n) }
 {
-    let After { env, bindings } = state;
-    match values_of(alloc, program, results, env.as_slice())? {
-        None => Ok(Went::Wrong(Items::new(alloc))),
+    let State { env, store } = state;
+    match values_of(alloc, tables, results, env.as_slice())? {
+        None => Ok(Partial::GoneWrong(no_trace(alloc))),
         Some(values) => {
             if n == 0 {
-                return Ok(Went::Cut(Items::new(alloc)));
+                return Ok(Partial::CutOff(no_trace(alloc)));
             }
-            let answer = Answer { values, bindings };
-            Ok(Went::Yes(answer, Items::new(alloc), n - 1))
+            let answer = Answer { values, store };
+            Ok(Partial::Yes(answer, weight_of_step(alloc, tables), n - 1))
         }
     }
 }
 
-fn copy_bindings(alloc: Global, bindings: &[Option<Value>]) -> Result<Bindings, Memory>
-    ensures { IfOk result (λ all. all ≡ bindings.now) }
+/// The step of a `not` whose goal has no answer.
+#[tactic(auto, using(crate::proofs::Traces::trace_rules))]
+fn denied(alloc: Global, tables: &Tables, env: Env, store: Store, n: u32) -> Partial<State>
+    ensures { result ≡ weighted_step tables.now.step_weight (goes_on env store) n }
+{
+    if n == 0 {
+        return Partial::CutOff(no_trace(alloc));
+    }
+    let state = State { env, store };
+    Partial::Yes(state, weight_of_step(alloc, tables), n - 1)
+}
+
+fn copy_store(alloc: Global, store: &[Option<Value>]) -> Result<Store, Memory>
+    ensures { IfOk result (λ all. all ≡ store.now) }
 {
     let mut all = Items::new(alloc);
-    for held in bindings {
+    for held in store {
         match held {
             None => all.push(None)?,
             Some(v) => all.push(Some(copy(alloc, v)?))?,
@@ -126,13 +143,13 @@ fn copy_bindings(alloc: Global, bindings: &[Option<Value>]) -> Result<Bindings, 
     Ok(all)
 }
 
-fn copy_env(alloc: Global, env: &[Bound]) -> Result<Env, Memory>
+fn copy_env(alloc: Global, env: &[Binding]) -> Result<Env, Memory>
     ensures { IfOk result (λ all. all ≡ env.now) }
 {
     let mut all = Items::new(alloc);
     for bound in env {
         let value = copy(alloc, &bound.value)?;
-        all.push(Bound {
+        all.push(Binding {
             var: bound.var,
             value,
         })?;
@@ -143,11 +160,11 @@ fn copy_env(alloc: Global, env: &[Bound]) -> Result<Env, Memory>
 /// The relation that is called.
 fn relation(
     alloc: Global,
-    program: &Program,
+    tables: &Tables,
     callee: Callee,
-    env: &[Bound],
+    env: &[Binding],
 ) -> Result<Option<u32>, Memory>
-    ensures { IfOk result (λ r. r ≡ relation_of program.now callee env.now) }
+    ensures { IfOk result (λ r. r ≡ relation_of (context_in tables.now) callee env.now) }
 {
     match callee {
         Callee::Rel(r) => Ok(Some(r)),
@@ -156,7 +173,7 @@ fn relation(
             Some(Value::Rel(r)) => Ok(Some(*r)),
             _ => Ok(None),
         },
-        Callee::Val(k) => match val_of(alloc, program, k)? {
+        Callee::Val(k) => match val_of(alloc, tables, k)? {
             Some(Value::Rel(r)) => Ok(Some(r)),
             _ => Ok(None),
         },
@@ -167,95 +184,82 @@ fn relation(
 #[cycle(search)]
 fn by_relation(
     alloc: Global,
-    program: &Program,
+    tables: &Tables,
     rel: u32,
     args: &[Value],
-    bindings: &[Option<Value>],
+    store: &[Option<Value>],
     n: u32,
     depth: u32,
-) -> Result<Went<Answer>, Memory>
-    ensures { IfOk result (λ w. w ≡ shown (relations_to program.now depth rel (record { values = args.now; bindings = bindings.now }) n)) }
+) -> Result<Partial<Answer>, Memory>
+    ensures { IfOk result (λ w. w ≡ relations_in tables.now depth rel (record { values = args.now; store = store.now }) n) }
 {
     if depth == 0 {
-        return Ok(Went::Cut(Items::new(alloc)));
+        return Ok(Partial::CutOff(no_trace(alloc)));
     }
-    match at(program.rels.as_slice(), rel as usize) {
-        None => Ok(Went::No(Items::new(alloc), n)),
+    match at(tables.rels, rel as usize) {
+        None => Ok(Partial::No(no_trace(alloc), n)),
         Some(def) => {
             let rules = def.rules.as_slice();
-            by_rules(alloc, program, rules, args, bindings, n, depth - 1)
+            by_rules(alloc, tables, rules, args, store, n, depth - 1)
         }
     }
 }
 
-/// Rules from top to bottom, each from the same bindings, up to the first that answers.
+/// Rules from top to bottom, each from the same store, up to the first that answers.
 #[cycle(search)]
+#[tactic(auto, using(crate::proofs::Traces::trace_rules))]
 fn by_rules(
     alloc: Global,
-    program: &Program,
+    tables: &Tables,
     rules: &[RRule],
     args: &[Value],
-    bindings: &[Option<Value>],
+    store: &[Option<Value>],
     n: u32,
     depth: u32,
-) -> Result<Went<Answer>, Memory>
-    requires { sum_by goals_size rules.now ≤ program_size program.now }
-    ensures { IfOk result (λ w. w ≡ shown (try program.now (relations_to program.now depth) rules.now (record { values = args.now; bindings = bindings.now }) n)) }
+) -> Result<Partial<Answer>, Memory>
+    requires { sum_by goals_size rules.now ≤ relations_size tables.now.rels.now }
+    ensures { IfOk result (λ w. w ≡ try (context_in tables.now) (relations_in tables.now depth) rules.now (record { values = args.now; store = store.now }) n) }
 {
-    let mut text = Items::new(alloc);
+    let mut trace = no_trace(alloc);
     let mut left = n;
     for rule in rules {
         if left == 0 {
-            return Ok(Went::Cut(text));
+            return Ok(Partial::CutOff(trace));
         }
-        let own = copy_bindings(alloc, bindings)?;
-        match by_rule(alloc, program, rule, args, own, left - 1, depth)? {
-            Went::Yes(a, more, m) => {
-                text.append(more)?;
-                return Ok(Went::Yes(a, text, m));
-            }
-            Went::No(more, m) => {
-                text.append(more)?;
+        let begun = join(trace, weight_of_step(alloc, tables))?;
+        let own = copy_store(alloc, store)?;
+        match by_rule(alloc, tables, rule, args, own, left - 1, depth)? {
+            Partial::Yes(a, more, m) => return Ok(Partial::Yes(a, join(begun, more)?, m)),
+            Partial::No(more, m) => {
+                trace = join(begun, more)?;
                 left = m;
             }
-            Went::Cut(more) => {
-                text.append(more)?;
-                return Ok(Went::Cut(text));
-            }
-            Went::Wrong(more) => {
-                text.append(more)?;
-                return Ok(Went::Wrong(text));
-            }
+            Partial::CutOff(more) => return Ok(Partial::CutOff(join(begun, more)?)),
+            Partial::GoneWrong(more) => return Ok(Partial::GoneWrong(join(begun, more)?)),
         }
     }
-    Ok(Went::No(text, left))
+    Ok(Partial::No(trace, left))
 }
 
 /// A rule's head, its premises and its results.
 #[cycle(search)]
 fn by_rule(
     alloc: Global,
-    program: &Program,
+    tables: &Tables,
     rule: &RRule,
     args: &[Value],
-    bindings: Bindings,
+    store: Store,
     n: u32,
     depth: u32,
-) -> Result<Went<Answer>, Memory>
-    requires { goals_size rule.now ≤ program_size program.now }
-    ensures { IfOk result (λ w. w ≡ shown (rule_gives program.now (relations_to program.now depth) rule.now (record { values = args.now; bindings = bindings }) n)) }
+) -> Result<Partial<Answer>, Memory>
+    requires { goals_size rule.now ≤ relations_size tables.now.rels.now }
+    ensures { IfOk result (λ w. w ≡ rule_gives (context_in tables.now) (relations_in tables.now depth) rule.now (record { values = args.now; store = store }) n) }
 {
-    let names = program.names.as_slice();
-    match match_each(
-        alloc,
-        names,
-        rule.inputs.as_slice(),
-        args,
-        Items::new(alloc),
-    )? {
-        Matched::Wrong => Ok(Went::Wrong(Items::new(alloc))),
-        Matched::No => Ok(Went::No(Items::new(alloc), n)),
-        Matched::Yes(env) => after_head(alloc, program, rule, env, bindings, n, depth),
+    let inputs = rule.inputs.as_slice();
+    match match_each(alloc, tables.names, inputs, args, Items::new(alloc))? {
+        Matched::Wrong => Ok(Partial::GoneWrong(no_trace(alloc))),
+        Matched::No => Ok(Partial::No(no_trace(alloc), n)),
+        Matched::Yes(env) => after_head(alloc, tables, rule, env, store, n, depth),
     }
 }
 
@@ -263,134 +267,118 @@ fn by_rule(
 #[cycle(search)]
 fn after_head(
     alloc: Global,
-    program: &Program,
+    tables: &Tables,
     rule: &RRule,
     env: Env,
-    bindings: Bindings,
+    store: Store,
     n: u32,
     depth: u32,
-) -> Result<Went<Answer>, Memory>
-    requires { goals_size rule.now ≤ program_size program.now }
-    ensures { IfOk result (λ w. w ≡ told_then (shown (going_all program.now (relations_to program.now depth) rule.now.goals env bindings n)) (λ s m. shown (answer program.now rule.now.results s m))) }
+) -> Result<Partial<Answer>, Memory>
+    requires { goals_size rule.now ≤ relations_size tables.now.rels.now }
+    ensures { IfOk result (λ w. w ≡ then_go (going_all (context_in tables.now) (relations_in tables.now depth) rule.now.goals env store n) (answer (context_in tables.now) rule.now.results)) }
 {
     let goals = rule.goals.as_slice();
-    match go_all(alloc, program, goals, env, bindings, n, depth)? {
-        Went::Yes(state, text, m) => {
+    match go_all(alloc, tables, goals, env, store, n, depth)? {
+        Partial::Yes(state, trace, m) => {
             let results = rule.results.as_slice();
-            prefixed(text, answered(alloc, program, results, state, m)?)
+            put_before(trace, answered(alloc, tables, results, state, m)?)
         }
-        Went::No(text, m) => Ok(Went::No(text, m)),
-        Went::Cut(text) => Ok(Went::Cut(text)),
-        Went::Wrong(text) => Ok(Went::Wrong(text)),
+        Partial::No(trace, m) => Ok(Partial::No(trace, m)),
+        Partial::CutOff(trace) => Ok(Partial::CutOff(trace)),
+        Partial::GoneWrong(trace) => Ok(Partial::GoneWrong(trace)),
     }
 }
 
 /// Goals from left to right.
 #[cycle(search)]
+#[tactic(auto, using(crate::proofs::Traces::trace_rules))]
 fn go_all(
     alloc: Global,
-    program: &Program,
+    tables: &Tables,
     goals: &[RGoal],
     env: Env,
-    bindings: Bindings,
+    store: Store,
     n: u32,
     depth: u32,
-) -> Result<Went<After>, Memory>
-    ensures { IfOk result (λ w. w ≡ shown (going_all program.now (relations_to program.now depth) goals.now env bindings n)) }
+) -> Result<Partial<State>, Memory>
+    ensures { IfOk result (λ w. w ≡ going_all (context_in tables.now) (relations_in tables.now depth) goals.now env store n) }
 {
     let mut env = env;
-    let mut bindings = bindings;
-    let mut text = Items::new(alloc);
+    let mut store = store;
+    let mut trace = no_trace(alloc);
     let mut left = n;
     for goal in goals {
-        match go(alloc, program, goal, env, bindings, left, depth)? {
-            Went::Yes(state, more, m) => {
+        match go(alloc, tables, goal, env, store, left, depth)? {
+            Partial::Yes(state, more, m) => {
                 env = state.env;
-                bindings = state.bindings;
-                text.append(more)?;
+                store = state.store;
+                trace = join(trace, more)?;
                 left = m;
             }
-            Went::No(more, m) => {
-                text.append(more)?;
-                return Ok(Went::No(text, m));
-            }
-            Went::Cut(more) => {
-                text.append(more)?;
-                return Ok(Went::Cut(text));
-            }
-            Went::Wrong(more) => {
-                text.append(more)?;
-                return Ok(Went::Wrong(text));
-            }
+            Partial::No(more, m) => return Ok(Partial::No(join(trace, more)?, m)),
+            Partial::CutOff(more) => return Ok(Partial::CutOff(join(trace, more)?)),
+            Partial::GoneWrong(more) => return Ok(Partial::GoneWrong(join(trace, more)?)),
         }
     }
-    Ok(Went::Yes(After { env, bindings }, text, left))
+    Ok(Partial::Yes(State { env, store }, trace, left))
 }
 
 /// A goal.
 #[cycle(search)]
-#[tactic(auto, using(crate::proofs::Shown::shown_rules))]
+#[tactic(auto, using(crate::proofs::Traces::trace_rules))]
 fn go(
     alloc: Global,
-    program: &Program,
+    tables: &Tables,
     goal: &RGoal,
     env: Env,
-    bindings: Bindings,
+    store: Store,
     n: u32,
     depth: u32,
-) -> Result<Went<After>, Memory>
-    ensures { IfOk result (λ w. w ≡ shown (going program.now (relations_to program.now depth) goal.now env bindings n)) }
+) -> Result<Partial<State>, Memory>
+    ensures { IfOk result (λ w. w ≡ going (context_in tables.now) (relations_in tables.now depth) goal.now env store n) }
 {
     match goal {
         RGoal::Call(callee, exps, patterns) => {
-            match values_of(alloc, program, exps.as_slice(), env.as_slice())? {
-                None => Ok(Went::Wrong(Items::new(alloc))),
+            match values_of(alloc, tables, exps.as_slice(), env.as_slice())? {
+                None => Ok(Partial::GoneWrong(no_trace(alloc))),
                 Some(args) => {
                     let patterns = patterns.as_slice();
                     let args = args.as_slice();
-                    called(
-                        alloc, program, *callee, args, patterns, env, bindings, n, depth,
-                    )
+                    called(alloc, tables, *callee, args, patterns, env, store, n, depth)
                 }
             }
         }
-        RGoal::Equal(a, b) => match value_of(alloc, program, a, env.as_slice())? {
-            None => Ok(Went::Wrong(Items::new(alloc))),
-            Some(v) => match value_of(alloc, program, b, env.as_slice())? {
-                None => Ok(Went::Wrong(Items::new(alloc))),
+        RGoal::Equal(a, b) => match value_of(alloc, tables, a, env.as_slice())? {
+            None => Ok(Partial::GoneWrong(no_trace(alloc))),
+            Some(v) => match value_of(alloc, tables, b, env.as_slice())? {
+                None => Ok(Partial::GoneWrong(no_trace(alloc))),
                 Some(w) => {
                     if equal(&v, &w) {
-                        Ok(Went::Yes(After { env, bindings }, Items::new(alloc), n))
+                        Ok(Partial::Yes(State { env, store }, no_trace(alloc), n))
                     } else {
-                        Ok(Went::No(Items::new(alloc), n))
+                        Ok(Partial::No(no_trace(alloc), n))
                     }
                 }
             },
         },
-        RGoal::Let(pattern, exp) => match value_of(alloc, program, exp, env.as_slice())? {
-            None => Ok(Went::Wrong(Items::new(alloc))),
+        RGoal::Let(pattern, exp) => match value_of(alloc, tables, exp, env.as_slice())? {
+            None => Ok(Partial::GoneWrong(no_trace(alloc))),
             Some(v) => {
-                let names = program.names.as_slice();
-                let outcome = matching(alloc, names, pattern, &v, env)?;
-                Ok(matched(alloc, outcome, bindings, n))
+                let outcome = matching(alloc, tables.names, pattern, &v, env)?;
+                Ok(matched(alloc, outcome, store, n))
             }
         },
         RGoal::Not(inner) => {
             let own_env = copy_env(alloc, env.as_slice())?;
-            let own = copy_bindings(alloc, bindings.as_slice())?;
-            match go(alloc, program, inner.get(), own_env, own, n, depth)? {
-                Went::Yes(_, text, m) => Ok(Went::No(text, m)),
-                Went::No(text, m) => {
-                    if m == 0 {
-                        return Ok(Went::Cut(text));
-                    }
-                    Ok(Went::Yes(After { env, bindings }, text, m - 1))
-                }
-                Went::Cut(text) => Ok(Went::Cut(text)),
-                Went::Wrong(text) => Ok(Went::Wrong(text)),
+            let own = copy_store(alloc, store.as_slice())?;
+            match go(alloc, tables, inner.get(), own_env, own, n, depth)? {
+                Partial::Yes(_, trace, m) => Ok(Partial::No(trace, m)),
+                Partial::No(trace, m) => put_before(trace, denied(alloc, tables, env, store, m)),
+                Partial::CutOff(trace) => Ok(Partial::CutOff(trace)),
+                Partial::GoneWrong(trace) => Ok(Partial::GoneWrong(trace)),
             }
         }
-        RGoal::All(goals) => go_all(alloc, program, goals.as_slice(), env, bindings, n, depth),
+        RGoal::All(goals) => go_all(alloc, tables, goals.as_slice(), env, store, n, depth),
     }
 }
 
@@ -398,88 +386,92 @@ fn go(
 #[cycle(search)]
 fn called(
     alloc: Global,
-    program: &Program,
+    tables: &Tables,
     callee: Callee,
     args: &[Value],
     patterns: &[RPat],
     env: Env,
-    bindings: Bindings,
+    store: Store,
     n: u32,
     depth: u32,
-) -> Result<Went<After>, Memory>
-    ensures { IfOk result (λ w. w ≡ shown (called_by program.now (relations_to program.now depth) callee args.now patterns.now env bindings n)) }
+) -> Result<Partial<State>, Memory>
+    ensures { IfOk result (λ w. w ≡ called_by (context_in tables.now) (relations_in tables.now depth) callee args.now patterns.now env store n) }
 {
     match callee {
         Callee::Built(number) => {
-            let given = built_in_at(alloc, number, args, bindings)?;
-            taken_from(alloc, program, number, patterns, env, given, n)
+            let given = apply_at(alloc, number, args, store)?;
+            taken_from(alloc, tables, number, patterns, env, given, n)
         }
         _ => {
-            let rel = relation(alloc, program, callee, env.as_slice())?;
-            called_at(alloc, program, rel, args, patterns, env, bindings, n, depth)
+            let rel = relation(alloc, tables, callee, env.as_slice())?;
+            called_at(alloc, tables, rel, args, patterns, env, store, n, depth)
         }
     }
 }
 
 /// A relation on values, and its results.
 #[cycle(search)]
-#[tactic(auto, using(crate::proofs::Shown::shown_rules))]
+#[tactic(auto, using(crate::proofs::Traces::trace_rules))]
 fn called_at(
     alloc: Global,
-    program: &Program,
+    tables: &Tables,
     rel: Option<u32>,
     args: &[Value],
     patterns: &[RPat],
     env: Env,
-    bindings: Bindings,
+    store: Store,
     n: u32,
     depth: u32,
-) -> Result<Went<After>, Memory>
-    ensures { IfOk result (λ w. w ≡ shown (relation_called program.now (relations_to program.now depth) rel args.now patterns.now env bindings n)) }
+) -> Result<Partial<State>, Memory>
+    ensures { IfOk result (λ w. w ≡ relation_called (context_in tables.now) (relations_in tables.now depth) rel args.now patterns.now env store n) }
 {
-    match call(alloc, program, rel, args, bindings.as_slice(), n, depth)? {
-        Went::Yes(given, text, m) => {
-            prefixed(text, taken(alloc, program, patterns, env, given, m)?)
+    match call(alloc, tables, rel, args, store.as_slice(), n, depth)? {
+        Partial::Yes(given, trace, m) => {
+            put_before(trace, taken(alloc, tables, patterns, env, given, m)?)
         }
-        Went::No(text, m) => Ok(Went::No(text, m)),
-        Went::Cut(text) => Ok(Went::Cut(text)),
-        Went::Wrong(text) => Ok(Went::Wrong(text)),
+        Partial::No(trace, m) => Ok(Partial::No(trace, m)),
+        Partial::CutOff(trace) => Ok(Partial::CutOff(trace)),
+        Partial::GoneWrong(trace) => Ok(Partial::GoneWrong(trace)),
     }
 }
 
 /// A call: a step, and then the relation.
 #[cycle(search)]
-#[tactic(auto, using(crate::proofs::Shown::shown_rules))]
+#[tactic(auto, using(crate::proofs::Traces::trace_rules))]
 fn call(
     alloc: Global,
-    program: &Program,
+    tables: &Tables,
     rel: Option<u32>,
     args: &[Value],
-    bindings: &[Option<Value>],
+    store: &[Option<Value>],
     n: u32,
     depth: u32,
-) -> Result<Went<Answer>, Memory>
-    ensures { IfOk result (λ w. w ≡ shown (call_of program.now (relations_to program.now depth) rel (record { values = args.now; bindings = bindings.now }) n)) }
+) -> Result<Partial<Answer>, Memory>
+    ensures { IfOk result (λ w. w ≡ call_of (context_in tables.now) (relations_in tables.now depth) rel (record { values = args.now; store = store.now }) n) }
 {
     if n == 0 {
-        return Ok(Went::Cut(Items::new(alloc)));
+        return Ok(Partial::CutOff(no_trace(alloc)));
     }
+    let begun = weight_of_step(alloc, tables);
     match rel {
-        None => Ok(Went::Wrong(Items::new(alloc))),
-        Some(rel) => by_relation(alloc, program, rel, args, bindings, n - 1, depth),
+        None => Ok(Partial::GoneWrong(begun)),
+        Some(rel) => {
+            let part = by_relation(alloc, tables, rel, args, store, n - 1, depth)?;
+            put_before(begun, part)
+        }
     }
 }
 
-/// The call of a relation from no bindings, in at most `n` steps.
-#[tactic(auto, using(crate::proofs::Shown::call_by_steps))]
+/// The call of a relation from an empty store, in at most `n` steps.
+#[tactic(auto, using(crate::proofs::Traces::call_by_steps))]
 pub fn search_from(
     alloc: Global,
-    program: &Program,
+    tables: &Tables,
     rel: u32,
     args: &[Value],
     n: u32,
-) -> Result<Went<Answer>, Memory>
-    ensures { IfOk result (λ w. w ≡ shown (search_of program.now rel args.now n)) }
+) -> Result<Partial<Answer>, Memory>
+    ensures { IfOk result (λ w. w ≡ search_in (context_in tables.now) (rules_of tables.now.rels.now) rel args.now n) }
 {
-    call(alloc, program, Some(rel), args, &[], n, n)
+    call(alloc, tables, Some(rel), args, &[], n, n)
 }

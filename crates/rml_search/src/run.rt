@@ -2,18 +2,31 @@
 
 ghost use Rattle.std.specs.Prelude.{◌≡◌, IfOk, map};
 ghost use Rattle.rml_base.specs.Run.{seen};
+ghost use Rattle.rml_simulation.specs.Partial.{trace_of};
 ghost use Rattle.rml_value.specs.declared.value.Value.TheVariants as value;
-ghost use Rattle.rml_search.specs.Shown.{shown, outcome_of, text_of};
-ghost use Rattle.rml_search.specs.Runs.{integer_in, argument as argument_of, main_called, run_of};
+ghost use Rattle.rml_search.specs.Runs.{integer_in, argument as argument_of, main_called, run_from, run_of};
 
 use crate::plain::search_from;
-use crate::state::Went;
+use crate::tables::tables_of;
 use rml_base::{Bytes, Memory, Outcome};
 use rml_builtin::Answer;
 use rml_resolved::Program;
+use rml_simulation::{Partial, Trace};
 use rml_value::{Value, Values, list_of};
 use sqlite_items::Items;
 use std::alloc::Global;
+
+/// What the plain search gives: the run of a program, after so many steps at most, as a caller sees it.
+#[derive(Debug, Drop)]
+pub struct PlainRun {
+    pub outcome: Outcome,
+    /// What it printed.
+    pub text: Vec<u8>,
+    /// The cells of the texts, lists and vectors that its built-ins made.
+    pub made: u64,
+    /// The weight of its steps.
+    pub weighed: u64,
+}
 
 fn texts(alloc: Global, args: &[Bytes]) -> Result<Values, Memory>
     ensures { IfOk result (λ vs. vs ≡ map value.Text args.now) }
@@ -38,11 +51,12 @@ fn call_main(
     program: &Program,
     args: &[Bytes],
     n: u32,
-) -> Result<Went<Answer>, Memory>
-    ensures { IfOk result (λ w. w ≡ shown (main_called program.now args.now n)) }
+) -> Result<Partial<Answer>, Memory>
+    ensures { IfOk result (λ w. w ≡ main_called program.now args.now n) }
 {
     let argument = [argument(alloc, args)?];
-    search_from(alloc, program, program.main, &argument, n)
+    let tables = tables_of(program);
+    search_from(alloc, &tables, program.main, &argument, n)
 }
 
 fn integer(values: &[Value]) -> Option<i64>
@@ -54,41 +68,46 @@ fn integer(values: &[Value]) -> Option<i64>
     }
 }
 
-fn outcome(went: &Went<Answer>) -> Outcome
-    ensures { result ≡ outcome_of went.now }
+fn outcome(part: &Partial<Answer>) -> Outcome
+    ensures { result ≡ seen (run_from part.now).outcome }
 {
-    match went {
-        Went::Yes(answer, _, _) => Outcome::Answer(integer(answer.values.as_slice())),
-        Went::No(_, _) => Outcome::Failure,
-        Went::Cut(_) => Outcome::Cut,
-        Went::Wrong(_) => Outcome::Failure,
+    match part {
+        Partial::Yes(answer, _, _) => Outcome::Answer(integer(answer.values.as_slice())),
+        Partial::No(_, _) => Outcome::Failure,
+        Partial::CutOff(_) => Outcome::Cut,
+        Partial::GoneWrong(_) => Outcome::Failure,
     }
 }
 
-fn text(went: &Went<Answer>) -> &[u8]
-    ensures { result.now ≡ text_of went.now }
+fn trace(part: &Partial<Answer>) -> &Trace
+    ensures { result.now ≡ trace_of part.now }
 {
-    match went {
-        Went::Yes(_, text, _) => text.as_slice(),
-        Went::No(text, _) => text.as_slice(),
-        Went::Cut(text) => text.as_slice(),
-        Went::Wrong(text) => text.as_slice(),
+    match part {
+        Partial::Yes(_, trace, _) => trace,
+        Partial::No(trace, _) => trace,
+        Partial::CutOff(trace) => trace,
+        Partial::GoneWrong(trace) => trace,
     }
 }
 
-/// The search for `main` with the list of the arguments, in at most `n` steps: how it ends, and what it prints. A program
-/// that is not typed may come to what has no meaning, which is a failure here. The only error is want of memory. The search
-/// goes as deep as calls and values do, so it is for small programs and few steps.
-pub fn search(
-    alloc: Global,
-    program: &Program,
-    args: &[Bytes],
-    n: u32,
-) -> Result<(Outcome, Vec<u8>), Memory>
-    ensures outcome { IfOk result (λ r. r.0 ≡ seen (run_of program.now args.now n).outcome) }
-    ensures text { IfOk result (λ r. r.1.items ≡ (run_of program.now args.now n).text) }
+/// The search for `main` with the list of the arguments, in at most `n` steps: how it ends, what it prints, the cells that its
+/// built-ins make, and the weight of its steps. A program that is not typed may come to what has no meaning, which is a failure
+/// here. The only error is want of memory; cells or weights that no 64 bits hold are answered as that. The search goes as
+/// deep as calls and values do, so it is for small programs and few steps.
+pub fn search(alloc: Global, program: &Program, args: &[Bytes], n: u32) -> Result<PlainRun, Memory>
+    ensures outcome { IfOk result (λ r. r.outcome ≡ seen (run_of program.now args.now n).outcome) }
+    ensures text { IfOk result (λ r. r.text.items ≡ (run_of program.now args.now n).text) }
+    ensures made { IfOk result (λ r. r.made ≡ (run_of program.now args.now n).made) }
+    ensures weighed { IfOk result (λ r. r.weighed ≡ (run_of program.now args.now n).weighed) }
 {
-    let went = call_main(alloc, program, args, n)?;
-    let bytes = Vec::from_slice(alloc, text(&went))?;
-    Ok((outcome(&went), bytes))
+    let part = call_main(alloc, program, args, n)?;
+    let outcome = outcome(&part);
+    let trace = trace(&part);
+    let text = Vec::from_slice(alloc, trace.text.as_slice())?;
+    Ok(PlainRun {
+        outcome,
+        text,
+        made: trace.made,
+        weighed: trace.weighed,
+    })
 }

@@ -1,18 +1,18 @@
 //! What the plain search holds and gives.
 
-use rml_builtin::Bindings;
+use rml_builtin::Store;
 use rml_value::Value;
 use sqlite_items::Items;
 
 /// A variable of a rule, and what it stands for.
 #[derive(Drop)]
-pub struct Bound {
+pub struct Binding {
     pub var: u32,
     pub value: Value,
 }
 
 /// What the variables of a rule stand for, in the order in which they were bound.
-pub type Env = Items<Bound>;
+pub type Env = Items<Binding>;
 
 /// What a match gives.
 #[derive(Drop)]
@@ -34,22 +34,9 @@ pub enum Parts {
     Wrong,
 }
 
-/// What the variables stand for after goals, and the bindings.
+/// What the variables stand for after goals, and the store.
 #[derive(Drop)]
-pub struct After {
+pub struct State {
     pub env: Env,
-    pub bindings: Bindings,
-}
-
-/// What was printed.
-pub type Text = Items<u8>;
-
-/// How a part of the search went: with what it gave or without, and the steps that are left; or it was cut, or it met what
-/// has no meaning. Each with what it printed.
-#[derive(Drop)]
-pub enum Went<A> {
-    Yes(A, Text, u32),
-    No(Text, u32),
-    Cut(Text),
-    Wrong(Text),
+    pub store: Store,
 }

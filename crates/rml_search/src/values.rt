@@ -3,18 +3,20 @@
 ghost use Rattle.std.specs.Prelude.{◌≡◌, ◌≤◌, [], IfOk, map, sum_by};
 ghost use Rattle.rml_resolved.specs.Size.{val_size};
 ghost use Rattle.std.specs.Option.{option_copied};
-ghost use Rattle.rml_search.specs.Values.{look, value_of_lit, chain_of as chain_of_values, meaning, vals_to, all_of, val_of as val_of_number, value_of as value_of_exp, values_of as values_of_exps};
+ghost use Rattle.rml_search.specs.Given.{context_in};
+ghost use Rattle.rml_search.specs.Values.{look, value_of_lit, chain_of as chain_of_values, meaning, vals_to, all_of, value_of as value_of_exp, values_of as values_of_exps};
 
-use crate::state::{Bound, Env};
+use crate::state::Binding;
+use crate::tables::Tables;
 use rml_base::{Bytes, Memory};
-use rml_resolved::{Program, RExp, ValDef};
+use rml_resolved::{RExp, ValDef};
 use rml_syntax::Lit;
 use rml_value::{Value, Values, copy, list_of, list_onto};
 use sqlite_items::{Items, at};
 use std::alloc::Global;
 
 /// What a variable stands for.
-pub fn find(x: u32, env: &[Bound]) -> Option<&Value>
+pub fn find(x: u32, env: &[Binding]) -> Option<&Value>
     ensures { option_copied result ≡ look x env.now }
 {
     for bound in env {
@@ -25,7 +27,7 @@ pub fn find(x: u32, env: &[Bound]) -> Option<&Value>
     None
 }
 
-fn found(alloc: Global, x: u32, env: &[Bound]) -> Result<Option<Value>, Memory>
+fn found(alloc: Global, x: u32, env: &[Binding]) -> Result<Option<Value>, Memory>
     ensures { IfOk result (λ v. v ≡ look x env.now) }
 {
     match find(x, env) {
@@ -67,14 +69,20 @@ fn chain_of(alloc: Global, values: Values) -> Result<Option<Value>, Memory>
 
 /// The value of a val, where vals need one another so deep at most.
 #[cycle(values)]
-fn val(alloc: Global, program: &Program, k: u32, depth: usize) -> Result<Option<Value>, Memory>
-    ensures { IfOk result (λ v. v ≡ vals_to program.now depth k) }
+fn val(
+    alloc: Global,
+    names: &[Bytes],
+    vals: &[ValDef],
+    k: u32,
+    depth: usize,
+) -> Result<Option<Value>, Memory>
+    ensures { IfOk result (λ v. v ≡ vals_to names.now vals.now depth k) }
 {
     if depth == 0 {
         return Ok(None);
     }
-    match at(program.vals.as_slice(), k as usize) {
-        Some(def) => val_by(alloc, program, def, depth - 1),
+    match at(vals, k as usize) {
+        Some(def) => val_by(alloc, names, vals, def, depth - 1),
         None => Ok(None),
     }
 }
@@ -82,44 +90,46 @@ fn val(alloc: Global, program: &Program, k: u32, depth: usize) -> Result<Option<
 #[cycle(values)]
 fn val_by(
     alloc: Global,
-    program: &Program,
+    names: &[Bytes],
+    vals: &[ValDef],
     def: &ValDef,
     depth: usize,
 ) -> Result<Option<Value>, Memory>
-    requires { val_size def.now ≤ sum_by val_size program.now.vals }
-    ensures { IfOk result (λ v. v ≡ meaning program.now.names (vals_to program.now depth) def.now.value []) }
+    requires { val_size def.now ≤ sum_by val_size vals.now }
+    ensures { IfOk result (λ v. v ≡ meaning names.now (vals_to names.now vals.now depth) def.now.value []) }
 {
-    value(alloc, program, &def.value, &[], depth)
+    value(alloc, names, vals, &def.value, &[], depth)
 }
 
 #[cycle(values)]
 fn value(
     alloc: Global,
-    program: &Program,
+    names: &[Bytes],
+    vals: &[ValDef],
     exp: &RExp,
-    env: &[Bound],
+    env: &[Binding],
     depth: usize,
 ) -> Result<Option<Value>, Memory>
-    ensures { IfOk result (λ v. v ≡ meaning program.now.names (vals_to program.now depth) exp.now env.now) }
+    ensures { IfOk result (λ v. v ≡ meaning names.now (vals_to names.now vals.now depth) exp.now env.now) }
 {
     match exp {
-        RExp::Lit(lit) => literal(alloc, program.names.as_slice(), *lit),
+        RExp::Lit(lit) => literal(alloc, names, *lit),
         RExp::Var(x) => found(alloc, *x, env),
-        RExp::Val(k) => val(alloc, program, *k, depth),
+        RExp::Val(k) => val(alloc, names, vals, *k, depth),
         RExp::Rel(r) => Ok(Some(Value::Rel(*r))),
-        RExp::Con(c, es) => match values(alloc, program, es.as_slice(), env, depth)? {
+        RExp::Con(c, es) => match values(alloc, names, vals, es.as_slice(), env, depth)? {
             Some(vs) => Ok(Some(Value::Con(*c, vs))),
             None => Ok(None),
         },
-        RExp::Tuple(es) => match values(alloc, program, es.as_slice(), env, depth)? {
+        RExp::Tuple(es) => match values(alloc, names, vals, es.as_slice(), env, depth)? {
             Some(vs) => Ok(Some(Value::Tuple(vs))),
             None => Ok(None),
         },
-        RExp::List(es) => match values(alloc, program, es.as_slice(), env, depth)? {
+        RExp::List(es) => match values(alloc, names, vals, es.as_slice(), env, depth)? {
             Some(vs) => Ok(Some(list_of(alloc, vs)?)),
             None => Ok(None),
         },
-        RExp::Cons(es) => match values(alloc, program, es.as_slice(), env, depth)? {
+        RExp::Cons(es) => match values(alloc, names, vals, es.as_slice(), env, depth)? {
             Some(vs) => chain_of(alloc, vs),
             None => Ok(None),
         },
@@ -129,16 +139,17 @@ fn value(
 #[cycle(values)]
 fn values(
     alloc: Global,
-    program: &Program,
+    names: &[Bytes],
+    vals: &[ValDef],
     exps: &[RExp],
-    env: &[Bound],
+    env: &[Binding],
     depth: usize,
 ) -> Result<Option<Values>, Memory>
-    ensures { IfOk result (λ vs. vs ≡ all_of (map (meaning program.now.names (vals_to program.now depth)) exps.now) env.now) }
+    ensures { IfOk result (λ vs. vs ≡ all_of (map (meaning names.now (vals_to names.now vals.now depth)) exps.now) env.now) }
 {
     let mut all = Items::new(alloc);
     for exp in exps {
-        match value(alloc, program, exp, env, depth)? {
+        match value(alloc, names, vals, exp, env, depth)? {
             None => return Ok(None),
             Some(v) => all.push(v)?,
         }
@@ -147,32 +158,34 @@ fn values(
 }
 
 /// The value of a val.
-pub fn val_of(alloc: Global, program: &Program, k: u32) -> Result<Option<Value>, Memory>
-    ensures { IfOk result (λ v. v ≡ val_of_number program.now k) }
+pub fn val_of(alloc: Global, tables: &Tables, k: u32) -> Result<Option<Value>, Memory>
+    ensures { IfOk result (λ v. v ≡ (context_in tables.now).vals k) }
 {
-    val(alloc, program, k, program.vals.len())
+    val(alloc, tables.names, tables.vals, k, tables.vals.len())
 }
 
 /// The value of an expression.
 pub fn value_of(
     alloc: Global,
-    program: &Program,
+    tables: &Tables,
     exp: &RExp,
-    env: &[Bound],
+    env: &[Binding],
 ) -> Result<Option<Value>, Memory>
-    ensures { IfOk result (λ v. v ≡ value_of_exp program.now exp.now env.now) }
+    ensures { IfOk result (λ v. v ≡ value_of_exp (context_in tables.now) exp.now env.now) }
 {
-    value(alloc, program, exp, env, program.vals.len())
+    let depth = tables.vals.len();
+    value(alloc, tables.names, tables.vals, exp, env, depth)
 }
 
 /// The values of expressions, from left to right.
 pub fn values_of(
     alloc: Global,
-    program: &Program,
+    tables: &Tables,
     exps: &[RExp],
-    env: &[Bound],
+    env: &[Binding],
 ) -> Result<Option<Values>, Memory>
-    ensures { IfOk result (λ vs. vs ≡ values_of_exps program.now exps.now env.now) }
+    ensures { IfOk result (λ vs. vs ≡ values_of_exps (context_in tables.now) exps.now env.now) }
 {
-    values(alloc, program, exps, env, program.vals.len())
+    let depth = tables.vals.len();
+    values(alloc, tables.names, tables.vals, exps, env, depth)
 }

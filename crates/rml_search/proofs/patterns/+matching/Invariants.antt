@@ -1,10 +1,10 @@
 use Rattle.std.proofs.Common.{◌≡◌, map, drop}
-use Rattle.rml_search.specs.Matching.{matching, in_turn, match_list, match_chain}
+use Rattle.rml_search.specs.Matching.{matching, match_in_turn, match_list, match_chain}
 use Rattle.rml_search.proofs.patterns.+matching.Given as goal
 
 abbrev pub invariant-match_each-loop-i : goal.invariant-match_each-loop-i
 invariant-match_each-loop-i l =
-    in_turn (map (matching l.names) l.patterns) l.values l.fn.env ≡ in_turn (map (matching l.names) (drop l.i l.patterns)) (drop l.i l.values) l.env
+    match_in_turn (map (matching l.names) l.patterns) l.values l.fn.env ≡ match_in_turn (map (matching l.names) (drop l.i l.patterns)) (drop l.i l.values) l.env
 
 abbrev pub invariant-match_list-loop-pattern : goal.invariant-match_list-loop-pattern
 invariant-match_list-loop-pattern l =

@@ -6,14 +6,11 @@ use Rattle.rml_search.proofs.values.+values.Goals as goal
 
 pub val-val_by-requires : goal.val-val_by-requires
 val-val_by-requires t c =
-    let held = rw c.as_slice.ensures at c.in-Some.ensures in
-    let small : val_size c.in-Some.def.now ≤ sum_by val_size c.args.program.now.vals = part-le val_size c.args.program.now.vals c.args.k c.in-Some.def.now (sym held) in
+    let small : val_size c.in-Some.def.now ≤ sum_by val_size c.args.vals.now = part-le val_size c.args.vals.now c.args.k c.in-Some.def.now (sym c.in-Some.ensures) in
     (search rules, small)
 
 pub val-returns-in-Some : goal.val-returns-in-Some
-val-returns-in-Some t c =
-    let held = rw c.as_slice.ensures at c.in-Some.ensures in
-    rw (vals_to-some c.args.program.now c.args.depth c.args.k (omega arith), ← held) c.val_by.ensures
+val-returns-in-Some t c = rw (vals_to-some c.args.names.now c.args.vals.now c.args.depth c.args.k (omega arith), ← c.in-Some.ensures) c.val_by.ensures
 
 pub val-returns-in-None : goal.val-returns-in-None
 val-returns-in-None t c = search (rules, vals_to-some)
@@ -21,5 +18,5 @@ val-returns-in-None t c = search (rules, vals_to-some)
 pub values-loop-exp-preserved : goal.values-loop-exp-preserved
 values-loop-exp-preserved t c =
     c.loop-exp.invariant
-    ∙ all-more (meaning c.args.program.now.names (vals_to c.args.program.now c.args.depth)) c.args.exps.now c.loop-exp.exp-index c.exp-item.result c.args.env.now
+    ∙ all-more (meaning c.args.names.now (vals_to c.args.names.now c.args.vals.now c.args.depth)) c.args.exps.now c.loop-exp.exp-index c.exp-item.result c.args.env.now
     c.in-Some.v c.loop-exp.all c.push.new.self (omega arith) c.exp-item.is (sym c.in-Some.is ∙ c.in_ok-value.ensures) c.in_ok-push-in-Some.ensures.ok
