@@ -22,7 +22,7 @@ use Rattle.rml_resolved.specs.declared.trees.RGoal.{RGoal, map-RGoal, roll-RGoal
 use Rattle.rml_resolved.specs.declared.trees.RGoal.TheOpen.{RGoal-F}
 use Rattle.rml_resolved.specs.Binding.{contains, binds_at, binds, all_bind, goal_binds_at, goal_binds, rule_binds, is_distinct, binds_once, relation_binds_once}
 use Rattle.rml_resolved.specs.Bound.{count}
-use Rattle.rml_resolved.specs.Fits.{pattern_at, pattern_fits, goal_at, goal_fits, goals_fit, patterns_fit, exps_fit, callee_fits, exp_fits, rule_fits, relation_fits, counts_of}
+use Rattle.rml_resolved.specs.Fits.{pattern_at, pattern_fits, goal_fits_at, goal_fits, goals_fit, patterns_fit, exps_fit, callee_fits, exp_fits, rule_fits, relation_fits, counts_of}
 use Rattle.rml_resolved.proofs.Counts.{contains-count}
 use Rattle.rml_resolved.proofs.Facts.{both}
 use Rattle.rml_resolved.proofs.Rounds.{both_ways, is_it, apart}
@@ -90,10 +90,10 @@ module _ (n : Counts) (cons : List ConDef) (vars : ℕ) where
   GoalBinds g = goal_fits n cons vars g ≡ true → Below vars (goal_binds g)
 
   goal_rolled : (y : RGoal-F RGoal)
-      → (goal_at n cons vars (map-RGoal RGoal Bool (goal_fits n cons vars) y) ≡ true → Below vars (goal_binds_at (map-RGoal RGoal (List ℕ) goal_binds y)))
+      → (goal_fits_at n cons vars (map-RGoal RGoal Bool (goal_fits n cons vars) y) ≡ true → Below vars (goal_binds_at (map-RGoal RGoal (List ℕ) goal_binds y)))
       → GoalBinds (roll-RGoal y)
   goal_rolled y f h =
-      subst (λ (xs : List ℕ). Below vars xs) (sym (fold-roll-RGoal (List ℕ) goal_binds_at y)) (f (sym (fold-roll-RGoal Bool (goal_at n cons vars) y) ∙ h))
+      subst (λ (xs : List ℕ). Below vars xs) (sym (fold-roll-RGoal (List ℕ) goal_binds_at y)) (f (sym (fold-roll-RGoal Bool (goal_fits_at n cons vars) y) ∙ h))
 
   inner_goals_bind : (gs : List ((x : RGoal) × GoalBinds x)) → every (map (goal_fits n cons vars) (map (λ e. e.0) gs)) ≡ true → Below vars (concat (map goal_binds (map (λ e. e.0) gs)))
   inner_goals_bind [] h = none-below vars

@@ -74,15 +74,15 @@ exps_fit n cons vars es = every (map (exp_fits n cons vars) es)
 abbrev pub patterns_fit : Counts → List ConDef → ℕ → List RPat → Bool
 patterns_fit n cons vars ps = every (map (pattern_fits n cons vars) ps)
 
-abbrev pub goal_at : Counts → List ConDef → ℕ → RGoal-F Bool → Bool
-goal_at n cons vars (RGoal-F.Call f es ps) = callee_fits n vars f && exps_fit n cons vars es && patterns_fit n cons vars ps
-goal_at n cons vars (RGoal-F.Equal a b) = exp_fits n cons vars a && exp_fits n cons vars b
-goal_at n cons vars (RGoal-F.Let p e) = pattern_fits n cons vars p && exp_fits n cons vars e
-goal_at n cons vars (RGoal-F.Not g) = g
-goal_at n cons vars (RGoal-F.All gs) = every gs
+abbrev pub goal_fits_at : Counts → List ConDef → ℕ → RGoal-F Bool → Bool
+goal_fits_at n cons vars (RGoal-F.Call f es ps) = callee_fits n vars f && exps_fit n cons vars es && patterns_fit n cons vars ps
+goal_fits_at n cons vars (RGoal-F.Equal a b) = exp_fits n cons vars a && exp_fits n cons vars b
+goal_fits_at n cons vars (RGoal-F.Let p e) = pattern_fits n cons vars p && exp_fits n cons vars e
+goal_fits_at n cons vars (RGoal-F.Not g) = g
+goal_fits_at n cons vars (RGoal-F.All gs) = every gs
 
 abbrev pub goal_fits : Counts → List ConDef → ℕ → RGoal → Bool
-goal_fits n cons vars = fold-RGoal Bool (goal_at n cons vars)
+goal_fits n cons vars = fold-RGoal Bool (goal_fits_at n cons vars)
 
 abbrev pub goals_fit : Counts → List ConDef → ℕ → List RGoal → Bool
 goals_fit n cons vars gs = every (map (goal_fits n cons vars) gs)

@@ -35,16 +35,16 @@ exp_at _ = 1
 abbrev pub exp_size : RExp → ℕ
 exp_size = fold-RExp ℕ exp_at
 
-abbrev pub goal_at : RGoal-F ℕ → ℕ
-goal_at (RGoal-F.Call f es ps) = 1 + sum_by exp_size es + sum_by pattern_size ps
-goal_at (RGoal-F.Equal a b) = 1 + exp_size a + exp_size b
-goal_at (RGoal-F.Let p e) = 1 + pattern_size p + exp_size e
-goal_at (RGoal-F.Not g) = 1 + g
-goal_at (RGoal-F.All gs) = 1 + sum gs
+abbrev pub goal_size_at : RGoal-F ℕ → ℕ
+goal_size_at (RGoal-F.Call f es ps) = 1 + sum_by exp_size es + sum_by pattern_size ps
+goal_size_at (RGoal-F.Equal a b) = 1 + exp_size a + exp_size b
+goal_size_at (RGoal-F.Let p e) = 1 + pattern_size p + exp_size e
+goal_size_at (RGoal-F.Not g) = 1 + g
+goal_size_at (RGoal-F.All gs) = 1 + sum gs
 
 -- the goals, patterns and expressions in a goal, itself included
 abbrev pub goal_size : RGoal → ℕ
-goal_size = fold-RGoal ℕ goal_at
+goal_size = fold-RGoal ℕ goal_size_at
 
 abbrev pub rule_size : RRule → ℕ
 rule_size r = sum_by pattern_size r.inputs + sum_by goal_size r.goals + sum_by exp_size r.results

@@ -20,6 +20,7 @@ mod typing;
 
 pub use checked::Parts;
 pub use program::Program;
+pub use size::longest;
 pub use tables::{ConDef, RRule, RelDef, TypeDef, ValDef};
 pub use trees::{Callee, RExp, RGoal, RPat};
 

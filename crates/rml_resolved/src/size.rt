@@ -148,7 +148,7 @@ fn longer(least: u32, rel: &RelDef) -> u32
     tokens
 }
 
-/// The tokens of the longest rule.
+/// The tokens of the longest rule, or 0 where there is none.
 pub fn longest(rels: &[RelDef]) -> u32
     ensures { result ≡ longest_of rels.now }
 {

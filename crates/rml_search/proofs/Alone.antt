@@ -1,11 +1,12 @@
 -- Relations that stand alone give the same searches with their own rules alone: goal by goal over calls that agree on the part, and
 -- so to each depth of calls.
 use Rattle.std.proofs.Common.{◌≡◌, ℕ, zero, suc, Bool, true, false, List, [], ◌∷◌, map, Option, Some, None, refl, sym, ap, ◌∙◌, subst}
-use Rattle.std.specs.Prelude.{if◌then◌else◌, IsTrue}
+use Rattle.std.specs.Prelude.{if◌then◌else◌, ◌&&◌, IsTrue}
 use Rattle.std.specs.List.{list_all}
 use Rattle.rml_simulation.specs.declared.partial.Partial.{Partial}
 use Rattle.rml_simulation.specs.declared.partial.Partial.TheVariants.{Yes, No, CutOff, GoneWrong}
 use Rattle.rml_simulation.specs.Partial.{after, then_go, or_else, unless}
+use Rattle.rml_base.specs.declared.place.Place.{Place}
 use Rattle.rml_value.specs.declared.value.Value.{Value}
 use Rattle.rml_builtin.specs.declared.applied.Answer.{Answer}
 use Rattle.rml_builtin.specs.Applied.{Store}
@@ -15,6 +16,7 @@ use Rattle.rml_resolved.specs.declared.trees.Callee.{Callee}
 use Rattle.rml_resolved.specs.declared.trees.Callee.TheVariants as callee
 use Rattle.rml_resolved.specs.declared.trees.RGoal.{RGoal, map-RGoal, roll-RGoal, fold-roll-RGoal, ind-RGoal}
 use Rattle.rml_resolved.specs.declared.trees.RGoal.TheOpen.{RGoal-F}
+use Rattle.rml_resolved.specs.declared.trees.RGoal.TheVariants.{Call, rolls-Call}
 use Rattle.rml_resolved.proofs.Facts.{both}
 use Rattle.rml_search.specs.declared.state.Matched.{Matched}
 use Rattle.rml_search.specs.declared.state.Matched.TheVariants as matched
@@ -25,6 +27,7 @@ use Rattle.rml_search.specs.Values.{values_of}
 use Rattle.rml_builtin.specs.Called.{Called}
 use Rattle.rml_search.specs.Search.{step_trace, weighted_step, RelationCalls, Action, goes_on, goals_in_turn, taken, with_value, call, called, goal_action, going, going_all, answer, past_head, by_rule, try, Rules, relations_to, search_in}
 use Rattle.rml_search.specs.Parts.{callee_within, goal_within_at, goal_within, rule_within, StandsAlone, rules_within}
+use Rattle.rml_search.specs.Loop.{loop_and, first_relation}
 
 -- ---- ways to go on that agree
 
@@ -144,3 +147,20 @@ module _ (c : Context) (rules : Rules) (part : ℕ → Bool) (alone : StandsAlon
       let s : Called = record { values = vs; store = [] } in
       step_same c.step_weight (λ m. relations_to c (rules_within part rules) (suc m) r s m) (λ m. relations_to c rules (suc m) r s m) n
       (λ m. relations_same (suc m) r inside s m)
+
+-- ---- the loop
+
+loop_goal : goal_within first_relation (Call (callee.Rel 0) [] []) ≡ true
+loop_goal =
+    ap (goal_within first_relation) (sym (rolls-Call (callee.Rel 0) [] []))
+    ∙ fold-roll-RGoal Bool (goal_within_at first_relation) (RGoal-F.Call (callee.Rel 0) [] [])
+
+abbrev alone_in : Bool → Bool
+alone_in b = (b && true) && true
+
+loop_within : (p : Place) (others : Rules) (r : ℕ) → IsTrue (first_relation r) → IsTrue (list_all (rule_within first_relation) (loop_and p others r))
+loop_within p others zero inside = ap alone_in loop_goal
+loop_within p others (suc r) inside = absurd (cc)
+
+pub loop_alone : (p : Place) (others : Rules) → StandsAlone first_relation (loop_and p others)
+loop_alone p others = record { within = loop_within p others }

@@ -35,7 +35,7 @@ use Rattle.rml_resolved.specs.declared.trees.RGoal.TheOpen.{RGoal-F}
 use Rattle.rml_resolved.specs.declared.trees.RGoal.TheVariants.{Not, All, rolls-Not, rolls-All}
 use Rattle.rml_resolved.specs.declared.trees.RGoal.TheViews.{out-roll-RGoal}
 use Rattle.rml_resolved.specs.Binding.{contains, binds_at, binds, all_bind, uses, all_use, callee_uses, can_use, Part, bound_at, after_goal, after_goals, parts_in_turn, before_results, has_all, uses_bound, relation_uses_bound}
-use Rattle.rml_resolved.specs.Fits.{goal_at as fits_at, pattern_fits, patterns_fit, exp_fits, exps_fit, callee_fits, goal_fits, goals_fit, rule_fits, relation_fits, counts_of}
+use Rattle.rml_resolved.specs.Fits.{goal_fits_at, pattern_fits, patterns_fit, exp_fits, exps_fit, callee_fits, goal_fits, goals_fit, rule_fits, relation_fits, counts_of}
 use Rattle.rml_resolved.proofs.Facts.{Both, both}
 use Rattle.rml_resolved.proofs.Variables.{passes}
 use Rattle.rml_search.specs.declared.state.Binding.{Binding}
@@ -387,7 +387,7 @@ module _ (p : Program) (calls : RelationCalls) where
   inside_not : (g : RGoal) (env : Env) → Ready p env (Not g) → Ready p env g
   inside_not g env ready =
       let fit = goal_fits (counts_of p.names p.vals p.rels) p.cons ready.vars in
-      let fits : fit g ≡ true = sym (ap fit (sym (rolls-Not g)) ∙ fold-roll-RGoal Bool (fits_at (counts_of p.names p.vals p.rels) p.cons ready.vars) (RGoal-F.Not g)) ∙ ready.fits in
+      let fits : fit g ≡ true = sym (ap fit (sym (rolls-Not g)) ∙ fold-roll-RGoal Bool (goal_fits_at (counts_of p.names p.vals p.rels) p.cons ready.vars) (RGoal-F.Not g)) ∙ ready.fits in
       let part : after_goal (Not g) ≡ bound_at (RGoal-F.Not (after_goal g)) = ap after_goal (sym (rolls-Not g)) ∙ fold-roll-RGoal Part bound_at (RGoal-F.Not g) in
       let used : option_map (λ (inside : List ℕ). bound_in env) (after_goal g (bound_in env)) ≡ Some ready.bound = sym (ap (λ (x : Part). x (bound_in env)) part) ∙ ready.uses_them in
       let held = inside_some (after_goal g (bound_in env)) (bound_in env) ready.bound used in
@@ -398,7 +398,7 @@ module _ (p : Program) (calls : RelationCalls) where
   inside_brackets front back g env store n m s t ready answers =
       let gs : List RGoal = front ++ g ∷ back in
       let fit = goal_fits (counts_of p.names p.vals p.rels) p.cons ready.vars in
-      let fits : goals_fit (counts_of p.names p.vals p.rels) p.cons ready.vars gs ≡ true = sym (ap fit (sym (rolls-All gs)) ∙ fold-roll-RGoal Bool (fits_at (counts_of p.names p.vals p.rels) p.cons ready.vars) (RGoal-F.All gs)) ∙ ready.fits in
+      let fits : goals_fit (counts_of p.names p.vals p.rels) p.cons ready.vars gs ≡ true = sym (ap fit (sym (rolls-All gs)) ∙ fold-roll-RGoal Bool (goal_fits_at (counts_of p.names p.vals p.rels) p.cons ready.vars) (RGoal-F.All gs)) ∙ ready.fits in
       let part : after_goal (All gs) ≡ after_goals gs = ap after_goal (sym (rolls-All gs)) ∙ fold-roll-RGoal Part bound_at (RGoal-F.All gs) in
       let used : after_goals gs (bound_in env) ≡ Some ready.bound = sym (ap (λ (x : Part). x (bound_in env)) part) ∙ ready.uses_them in
       ready_among p calls ready.vars front back g env store n m s t ready.bound fits used answers
@@ -419,13 +419,13 @@ module _ (p : Program) (calls : RelationCalls) where
   ReadyValues g = (env : Env) → Ready p env g → HasValues (context_of p) env (out-RGoal g)
 
   values_rolled : (y : RGoal-F RGoal)
-      → ((env : Env) (vars : ℕ) (bound : List ℕ) → fits_at (counts_of p.names p.vals p.rels) p.cons vars (map-RGoal RGoal Bool (goal_fits (counts_of p.names p.vals p.rels) p.cons vars) y) ≡ true
+      → ((env : Env) (vars : ℕ) (bound : List ℕ) → goal_fits_at (counts_of p.names p.vals p.rels) p.cons vars (map-RGoal RGoal Bool (goal_fits (counts_of p.names p.vals p.rels) p.cons vars) y) ≡ true
       → bound_at (map-RGoal RGoal Part after_goal y) (bound_in env) ≡ Some bound → HasValues (context_of p) env y)
       → ReadyValues (roll-RGoal y)
   values_rolled y each env ready =
       subst (λ (z : RGoal-F RGoal). HasValues (context_of p) env z) (sym (out-roll-RGoal y))
       (each env ready.vars ready.bound
-      (sym (fold-roll-RGoal Bool (fits_at (counts_of p.names p.vals p.rels) p.cons ready.vars) y) ∙ ready.fits)
+      (sym (fold-roll-RGoal Bool (goal_fits_at (counts_of p.names p.vals p.rels) p.cons ready.vars) y) ∙ ready.fits)
       (sym (ap (λ (x : Part). x (bound_in env)) (fold-roll-RGoal Part bound_at y)) ∙ ready.uses_them))
 
   -- where two lists can be used, each can

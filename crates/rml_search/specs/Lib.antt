@@ -6,6 +6,7 @@ pub mod Search
 pub mod Whole
 pub mod Given
 pub mod Parts
+pub mod Loop
 pub mod Standing
 pub mod Walk
 pub mod Runs

@@ -1,6 +1,7 @@
 //! What holds of the search. These functions do nothing: their contracts are the laws.
 
 ghost use Rattle.std.specs.Prelude.{◌≡◌, ◌≢◌, ◌+◌, ◌*◌, ◌<◌, ℕ, Bool, List, IsTrue};
+ghost use Rattle.rml_base.specs.declared.place.Place.{Place};
 ghost use Rattle.rml_base.specs.Run.{Full, Wrong, goes};
 ghost use Rattle.rml_base.specs.Same.{EndsAt};
 ghost use Rattle.rml_base.specs.Monotone.{IsMonotone};
@@ -14,6 +15,7 @@ ghost use Rattle.rml_builtin.specs.Called.{Called};
 ghost use Rattle.rml_search.specs.Search.{Rules, try, relations, relations_to, search_in};
 ghost use Rattle.rml_search.specs.Whole.{context_of};
 ghost use Rattle.rml_search.specs.Parts.{StandsAlone, rules_within};
+ghost use Rattle.rml_search.specs.Loop.{loop_and, first_relation};
 ghost use Rattle.rml_search.specs.Runs.{run_of, runs_of};
 ghost use Rattle.rml_search.specs.Weights.{WeighsSteps, RunWeighsSteps};
 
@@ -52,6 +54,11 @@ pub fn ends_are_exact()
 pub fn parts_are_searched_alone()
     ensures { (c : Context) (rules : Rules) (part : ℕ → Bool) → StandsAlone part rules → (r : ℕ) → IsTrue (part r) → (vs : List Value) (n : ℕ)
         → search_in c (rules_within part rules) r vs n ≡ search_in c rules r vs n }
+{}
+
+/// So is a relation of one rule, which calls it again, whatever rules the others have.
+pub fn a_loop_stands_alone()
+    ensures { (p : Place) (others : Rules) → StandsAlone first_relation (loop_and p others) }
 {}
 
 /// The search looks at no limit of cells.

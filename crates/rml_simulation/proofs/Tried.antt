@@ -1,7 +1,7 @@
 -- The tiny relations, case by case.
-use Rattle.std.proofs.Common.{◌≡◌, ℕ, zero, suc, ◌+◌, ◌-◌, ◌<◌, ◌≤◌, None, refl, sym, ◌∙◌, ap, subst, arith}
+use Rattle.std.proofs.Common.{◌≡◌, ℕ, zero, suc, ◌+◌, ◌-◌, ◌<◌, ◌≤◌, None, refl, sym, ◌∙◌, ap, subst, arith, ◌≢◌, []}
 use Rattle.std.proofs.Math.Path.{fun_ext}
-use Rattle.rml_base.specs.Run.{Answer, Failure, Rest, bare, step}
+use Rattle.rml_base.specs.Run.{Answer, Failure, Rest, bare, step, Full, Run}
 use Rattle.rml_base.specs.Monotone.{IsMonotone}
 use Rattle.rml_base.specs.MonotoneLaws.{longer_is_monotone, longer_always}
 use Rattle.rml_simulation.specs.declared.partial.Partial.{Partial}
@@ -13,18 +13,21 @@ use Rattle.rml_simulation.specs.Alike.{Alike}
 use Rattle.rml_simulation.specs.AlikeLaws.{alike_more, alike_step}
 use Rattle.rml_simulation.specs.Calls.{Calls, calls_by_steps, AlikeCalls, StepsToCall, GrowsWithCalls}
 use Rattle.rml_simulation.specs.CallsLaws.{unroll_calls, calls_grow}
-use Rattle.rml_simulation.specs.Acts.{Acts, AlikeAct, AlikeRest, StepsToAct}
+use Rattle.rml_simulation.specs.Acts.{Acts, AlikeAct, AlikeRest, StepsToAct, acts_by_steps}
 use Rattle.rml_simulation.specs.ActsLaws.{step_alike}
 use Rattle.rml_simulation.specs.Exact.{Spends, UsesExactly, SpendsWithCalls}
 use Rattle.rml_simulation.specs.ExactLaws.{spends_yes, spends_step, calls_spend}
 use Rattle.rml_simulation.specs.Simulates.{Credit, nothing, Simulates}
-use Rattle.rml_simulation.specs.Moves.{AtMost, more_steps, more_made, more_weighed}
-use Rattle.rml_simulation.specs.Carries.{SimulatesAct, kept, acted, CarriesCall, AreActed, Corresponds}
-use Rattle.rml_simulation.specs.Examples.{counted, plodding, fading, told, by_a_step, counting, answering, failing, once, twice}
+use Rattle.rml_simulation.specs.Moves.{AtMost, more_steps, more_made, more_weighed, less_steps}
+use Rattle.rml_simulation.specs.Carries.{SimulatesAct, kept, acted, CarriesCall, AreActed, Corresponds, CarriesAct, acted_before, CarriesTold}
+use Rattle.rml_simulation.specs.Examples.{counted, plodding, fading, told, by_a_step, counting, answering, failing, once, twice, late, told_slowly, begun_late, ended_late}
 use Rattle.rml_simulation.proofs.Followed.{followed_step, followed_then, followed_else, traced_none}
-use Rattle.rml_simulation.proofs.SimulatesMoves.{weaken, both_step, old_step, equal, itself}
+use Rattle.rml_simulation.proofs.SimulatesMoves.{weaken, both_step, old_step, equal, itself, new_step}
 use Rattle.rml_simulation.proofs.Silent.{silent_answer}
-use Rattle.rml_simulation.proofs.Carried.{calls_simulate}
+use Rattle.rml_simulation.proofs.Carried.{calls_simulate, first_simulates, acts_simulate, told_simulate}
+use Rattle.std.specs.Prelude.{◌⊎◌}
+use Rattle.rml_simulation.specs.Known.{SimulatesPart, SimulatesKnown}
+use Rattle.rml_simulation.proofs.Learned.{learned}
 
 -- ---- the body's premises
 
@@ -151,3 +154,136 @@ told_is_fading r = record { at = at }
     at calls acts same k h (suc s) n =
         step_equal (acts r k h s) (λ m. followed (calls r s m) k (step h)) n (same r k h s)
         ∙ sym (followed_step (calls r s) k (step h) n)
+
+-- ---- what is earned before the end is paid at the end
+
+lower_act : (j q : ℕ) (c : Credit) (f g : Rest) → q ≤ j → Simulates j c f g → Simulates q c f g
+lower_act j q c f g le u = weaken j q c c f g le (record { steps = omega arith; made = omega arith; weighed = omega arith }) u
+
+pub late_local : StepsToCall late
+late_local = record { at = at }
+  where
+    at : (n : ℕ) (f g : Calls ℕ ℕ) → AlikeCalls n f g → (r : ℕ) (s : ℕ) → Alike n (late f r s n) (late g r s n)
+    at n f g alike r s =
+        alike_step n n (counted f r s) (counted g r s)
+        (λ m lt. alike_more m n (counted f r s m) (counted g r s m) (omega arith) (counted_local.at m f g (λ q t l less. alike q t l (omega arith)) r s))
+
+-- counting simulates counting, whatever it calls
+counted_again : (r i : ℕ) (olds news : Calls ℕ ℕ) → ((j : ℕ) → j < i → (q : ℕ) → SimulatesAct kept j (acted (olds q)) (acted (news q))) → (j : ℕ) (c : Credit) (k k' : ℕ → Rest) (h h' : Rest) → j ≤ i
+    → ((a : ℕ) → Simulates j c (k a) (k' a)) → Simulates j c h h' → (s : ℕ) → Simulates j c (λ n. followed (counted olds r s n) k h) (λ n. followed (counted news r s n) k' h')
+counted_again r i olds news below j c k k' h h' le ks hs zero =
+    equal j c (k 0) (λ n. followed (Yes 0 untraced n) k h) (k' 0) (λ n. followed (Yes 0 untraced n) k' h')
+    (λ n. sym (traced_none (k 0 n))) (λ m within. sym (traced_none (k' 0 m))) (ks 0)
+counted_again r i olds news below j c k k' h h' le ks hs (suc s) =
+    equal j c (step (λ n. followed (olds r s n) k h)) (λ n. followed (take_step (olds r s) n) k h) (step (λ n. followed (news r s n) k' h')) (λ n. followed (take_step (news r s) n) k' h')
+    (λ n. sym (followed_step (olds r s) k h n)) (λ m within. sym (followed_step (news r s) k' h' m))
+    (both_step j c (λ n. followed (olds r s n) k h) (λ n. followed (news r s n) k' h')
+    (λ q lt. (below q (omega arith) r).at q c k k' h h' (omega arith) (λ a. lower_act j q c (k a) (k' a) (omega arith) (ks a)) (lower_act j q c h h' (omega arith) hs) s))
+
+pub late_earns : (r : ℕ) → CarriesCall (more_steps 1) (λ f. late f r) (λ f. counted f r)
+late_earns r = record {
+  by = λ i olds news below. record {
+    at = λ j c k k' h h' le ks hs s.
+        equal j c (step (λ n. followed (counted olds r s n) k h)) (λ n. followed (take_step (counted olds r s) n) k h) (λ n. followed (counted news r s n) k' h') (λ n. followed (counted news r s n) k' h')
+        (λ n. sym (followed_step (counted olds r s) k h n)) (λ m within. refl)
+        (old_step j c (λ n. followed (counted olds r s n) k h) (λ n. followed (counted news r s n) k' h')
+        (counted_again r i olds news below j (more_steps 1 c) k k' h h' le ks hs s));
+  };
+}
+
+-- and what it has earned may be given up
+pub late_keeps : (r : ℕ) → CarriesCall kept (λ f. late f r) (λ f. counted f r)
+late_keeps r = record {
+  by = λ i olds news below. record {
+    at = λ j c k k' h h' le ks hs s.
+        ((late_earns r).by i olds news below).at j c k k' h h' le
+        (λ a. weaken j j c (more_steps 1 c) (k a) (k' a) (omega arith) (more_credit c) (ks a))
+        (weaken j j c (more_steps 1 c) h h' (omega arith) (more_credit c) hs) s;
+  };
+}
+
+pub late_is_ahead : (i : ℕ) → SimulatesAct (more_steps 1) i (acted (calls_by_steps late 0)) (acted (calls_by_steps counted 0))
+late_is_ahead i = first_simulates late counted late_local counted_local late_keeps (more_steps 1) 0 (late_earns 0) i
+
+-- a step of the new run before an end is paid
+paid : (i : ℕ) (r : Run) → r.text ≡ [] → r.outcome ≢ Full → Simulates i (more_steps 1 nothing) (λ n. r) (step (λ n. r))
+paid i r text not_full =
+    new_step i (more_steps 1 nothing) (λ n. r) (λ n. r) (omega arith) (record { text = text; not_full = not_full })
+    (λ j lt. itself j (less_steps 1 (more_steps 1 nothing)) (λ n. r) (longer_is_monotone (λ n. r) (λ q. longer_always q r)))
+
+answer_not_full : Answer None ≢ Full
+answer_not_full e = cc
+
+failure_not_full : Failure ≢ Full
+failure_not_full e = cc
+
+pub late_pays : (s i : ℕ) → Simulates i nothing (begun_late s) (ended_late s)
+late_pays s i =
+    (late_is_ahead i).at i nothing answering (λ a. step (answering a)) failing (step failing) (omega arith)
+    (λ a. paid i (bare (Answer None)) refl answer_not_full) (paid i (bare Failure) refl failure_not_full) s
+
+-- ---- told what follows, and slowly
+
+pub slowly_local : StepsToAct told_slowly
+slowly_local = record { at = at }
+  where
+    at : (n : ℕ) (f g : Acts ℕ ℕ) → ((r : ℕ) → AlikeAct n (f r) (g r)) → (r : ℕ) (k k' : ℕ → Rest) (h h' : Rest) → ((a : ℕ) → AlikeRest n (k a) (k' a)) → AlikeRest n h h' → (s : ℕ)
+        → told_slowly f r k h s n ≡ told_slowly g r k' h' s n
+    at n f g alike r k k' h h' ka ha zero = step_alike n n h h' (omega arith) ha
+    at n f g alike r k k' h h' ka ha (suc s) =
+        step_alike n n (step (f r k h s)) (step (g r k' h' s)) (omega arith)
+        (record { at = λ m lt. step_alike n m (f r k h s) (g r k' h' s) (omega arith) ((alike r).at k k' h h' ka ha s) })
+
+pub told_carries : (r : ℕ) → CarriesAct (λ f. told_slowly f r) (λ f. told f r)
+told_carries r = record { by = λ i olds news below. record { at = at i olds news below } }
+  where
+    at : (i : ℕ) (olds news : Acts ℕ ℕ) → ((j : ℕ) → j < i → (q : ℕ) → SimulatesAct kept j (olds q) (news q)) → (j : ℕ) (c : Credit) (k k' : ℕ → Rest) (h h' : Rest) → j ≤ i
+        → ((a : ℕ) → Simulates j c (k a) (k' a)) → Simulates j c h h' → (s : ℕ) → Simulates j c (told_slowly olds r k h s) (told news r k' h' s)
+    at i olds news below j c k k' h h' le ks hs zero = both_step j c h h' (λ q lt. lower_act j q c h h' (omega arith) hs)
+    at i olds news below j c k k' h h' le ks hs (suc s) =
+        both_step j c (step (olds r k h s)) (news r k' h' s)
+        (λ q lt. old_step q c (olds r k h s) (news r k' h' s)
+        ((below q (omega arith) r).at q (more_steps 1 c) k k' h h' (omega arith)
+        (λ a. weaken j q c (more_steps 1 c) (k a) (k' a) (omega arith) (more_credit c) (ks a))
+        (weaken j q c (more_steps 1 c) h h' (omega arith) (more_credit c) hs) s))
+
+pub told_simulates : (i r : ℕ) → SimulatesAct kept i (acts_by_steps told_slowly r) (acts_by_steps told r)
+told_simulates i r = acts_simulate told_slowly told slowly_local told_local told_carries i r
+
+-- ---- from direct style to what is told
+
+pub fading_local : StepsToCall fading
+fading_local = record { at = at }
+  where
+    at : (n : ℕ) (f g : Calls ℕ ℕ) → AlikeCalls n f g → (r : ℕ) (s : ℕ) → Alike n (fading f r s n) (fading g r s n)
+    at n f g alike r zero = (refl, omega arith)
+    at n f g alike r (suc s) = alike_step n n (f r s) (g r s) (λ m lt. alike_more m n (f r s m) (g r s m) (omega arith) (alike r s m lt))
+
+pub fading_carries : (r : ℕ) → CarriesTold by_a_step (λ f. fading f r) (λ f. told f r)
+fading_carries r = record { by = λ i olds news below. record { at = at i olds news below } }
+  where
+    at : (i : ℕ) (olds : Calls ℕ ℕ) (news : Acts ℕ ℕ) → ((j : ℕ) → j < i → (q : ℕ) → SimulatesAct kept j (acted_before by_a_step (olds q)) (news q)) → (j : ℕ) (c : Credit) (k k' : ℕ → Rest) (h h' : Rest) → j ≤ i
+        → ((a : ℕ) → Simulates j c (k a) (k' a)) → Simulates j c h h' → (s : ℕ) → Simulates j c (λ n. followed (fading olds r s n) k (step h)) (told news r k' h' s)
+    at i olds news below j c k k' h h' le ks hs zero =
+        equal j c (step h) (λ n. followed (No untraced n) k (step h)) (step h') (step h')
+        (λ n. sym (traced_none (step h n))) (λ m within. refl) (both_step j c h h' (λ q lt. lower_act j q c h h' (omega arith) hs))
+    at i olds news below j c k k' h h' le ks hs (suc s) =
+        equal j c (step (λ n. followed (olds r s n) k (step h))) (λ n. followed (take_step (olds r s) n) k (step h)) (step (news r k' h' s)) (step (news r k' h' s))
+        (λ n. sym (followed_step (olds r s) k (step h) n)) (λ m within. refl)
+        (both_step j c (λ n. followed (olds r s n) k (step h)) (news r k' h' s)
+        (λ q lt. (below q (omega arith) r).at q c k k' h h' (omega arith) (λ a. lower_act j q c (k a) (k' a) (omega arith) (ks a)) (lower_act j q c h h' (omega arith) hs) s))
+
+pub fading_simulates : (i r : ℕ) → SimulatesAct kept i (acted_before by_a_step (calls_by_steps fading r)) (acts_by_steps told r)
+fading_simulates i r = told_simulate by_a_step fading told fading_local told_local fading_carries i r
+
+-- ---- how the slower one ended
+
+pub plodding_part : (i r s : ℕ) → SimulatesPart i (calls_by_steps plodding r s) (calls_by_steps counted r s)
+plodding_part i r s = record { at = λ j c k k' h h' le ks hs. (counted_for_plodding i r).at j c k k' h h' le ks hs s }
+
+told_apart : (a b : ℕ) → (a ≡ b) ⊎ (a ≢ b)
+told_apart a b = grind arith
+
+pub plodding_known : (i r s : ℕ) → SimulatesKnown i (calls_by_steps plodding r s) (calls_by_steps counted r s)
+plodding_known i r s =
+    learned told_apart i (calls_by_steps plodding r s) (calls_by_steps counted r s) (calls_spend counted counted_local counted_spends r s) (plodding_part i r s)

@@ -19,6 +19,10 @@ abbrev pub plodding : Calls ℕ ℕ → Calls ℕ ℕ
 plodding calls r zero n = Yes 0 untraced n
 plodding calls r (suc s) n = take_step (take_step (calls r s)) n
 
+-- a step before it counts, as a rule that is begun
+abbrev pub late : Calls ℕ ℕ → Calls ℕ ℕ
+late calls r s n = take_step (counted calls r s) n
+
 -- a step a call, and then it fails
 abbrev pub fading : Calls ℕ ℕ → Calls ℕ ℕ
 fading calls r zero n = No untraced n
@@ -28,6 +32,11 @@ fading calls r (suc s) n = take_step (calls r s) n
 abbrev pub told : Acts ℕ ℕ → Acts ℕ ℕ
 told acts r k h zero n = step h n
 told acts r k h (suc s) n = step (acts r k h s) n
+
+-- two steps a call
+abbrev pub told_slowly : Acts ℕ ℕ → Acts ℕ ℕ
+told_slowly acts r k h zero n = step h n
+told_slowly acts r k h (suc s) n = step (step (acts r k h s)) n
 
 abbrev pub by_a_step : Before
 by_a_step = record { answer = λ k. k; failure = step }
@@ -49,3 +58,10 @@ once s n = followed (counting s n) answering failing
 
 abbrev pub twice : ℕ → Rest
 twice s n = followed (or_else (then_go (counting s n) (λ a m. No untraced m)) (counting s)) answering failing
+
+-- a run that counts late, and one that counts and then takes a step before what follows
+abbrev pub begun_late : ℕ → Rest
+begun_late s n = followed (calls_by_steps late 0 s n) answering failing
+
+abbrev pub ended_late : ℕ → Rest
+ended_late s n = followed (counting s n) (λ a. step (answering a)) (step failing)
