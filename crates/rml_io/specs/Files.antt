@@ -12,6 +12,19 @@ use Rattle.rml_io.specs.declared.errors.FileErr.TheVariants.{Failed, TooLong, Me
 abbrev pub Held : Type 0
 Held = FinMap (slice_cmp nat_cmp) (List ℕ)
 
+-- What is seen of files from outside.
+pub record FilesSeen : Type 0 where
+  -- the bytes that are held under each name, where that is told
+  pub held : Option Held
+  -- the names of the reads so far but those for which there was no memory, the first read first, where they are told
+  pub asked : Option (List (List ℕ))
+  -- how many reads failed; this and the next two numbers never fall, and stop at 2^64 - 1
+  pub faults : ℕ
+  -- how many reads there were
+  pub calls : ℕ
+  -- how many bytes the reads took, also those of reads without an answer
+  pub taken : ℕ
+
 -- the names read so far, where they are told, and then this one
 abbrev pub and_name : Option (List (List ℕ)) → List ℕ → Option (List (List ℕ))
 and_name told name = option_map (λ names. names ++ name ∷ []) told

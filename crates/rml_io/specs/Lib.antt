@@ -6,3 +6,4 @@ pub mod MemFiles
 pub mod MemSink
 pub mod HostFiles
 pub mod Limited
+pub mod Piece

@@ -44,15 +44,7 @@ impl<R: rt::Files> HostFiles<R> {
 }
 
 impl<R: rt::Files> Files for HostFiles<R> {
-    ghost held = { λ _. None };
-
-    ghost asked = { λ _. None };
-
-    ghost faults = { λ f. f.faults };
-
-    ghost calls = { λ f. f.calls };
-
-    ghost taken = { λ f. f.taken };
+    ghost seen = { λ f. record { held = None; asked = None; faults = f.faults; calls = f.calls; taken = f.taken } };
 
     /// Each error of the host is `Failed`.
     fn read(&mut self, alloc: Global, name: &str, limit: usize) -> Result<Vec<u8>, FileErr> {

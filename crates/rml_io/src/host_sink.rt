@@ -1,8 +1,10 @@
-//! The host's streams: the trusted edge. What the host takes is told by no clause.
+//! The host's streams: the trusted edge. What the host takes is told by no clause, so these few lines only keep a count, and
+//! the writing itself is `write_piece`, which is generic over the writer.
 
 ghost use Rattle.std.specs.Prelude.{◌≡◌, None};
 
 use crate::errors::Failed;
+use crate::piece::write_piece;
 use crate::sink::Sink;
 use std::io::Write;
 use std::marker::Model;
@@ -32,24 +34,10 @@ impl<W: Write> HostSink<W> {
 }
 
 impl<W: Write> Sink for HostSink<W> {
-    ghost written = { λ _. None };
-
-    ghost faults = { λ s. s };
+    ghost seen = { λ s. record { text = None; faults = s } };
 
     /// Each error of the writer is `Failed`.
     fn write(&mut self, piece: &[u8]) -> Result<usize, Failed> {
-        // Its range is known from here on.
-        let _before = self.faults;
-        match self.writer.write(piece) {
-            Ok(0) if !piece.is_empty() => {
-                self.faults = self.faults.saturating_add(1);
-                Ok(0)
-            }
-            Ok(count) => Ok(count),
-            Err(_) => {
-                self.faults = self.faults.saturating_add(1);
-                Err(Failed)
-            }
-        }
+        write_piece(&mut self.writer, piece, &mut self.faults)
     }
 }

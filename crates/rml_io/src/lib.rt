@@ -10,6 +10,7 @@ mod host_sink;
 mod limited;
 mod mem_files;
 mod mem_sink;
+mod piece;
 mod sink;
 mod store;
 

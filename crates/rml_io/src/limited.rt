@@ -1,6 +1,6 @@
 //! Reads of a whole file that keep to a limit, over any reader.
 
-ghost use Rattle.std.specs.Prelude.{◌≡◌, ◌+◌, ◌<◌, ◌≤◌, ℕ, List, Ok, true, false, IfOk, IfSome, OnOk, IsErrOf, length, vec_len};
+ghost use Rattle.std.specs.Prelude.{◌≡◌, ◌+◌, ◌<◌, ◌≤◌, ◌++◌, ℕ, List, Ok, Err, true, false, IfOk, IfSome, OnOk, OnErr, IsErrOf, IsOkUnless, length, nat_lt, vec_len};
 ghost use Rattle.std.specs.declared.option.Option.{Option};
 ghost use Rattle.std.specs.Io.KnownBytes.{Consumes, IsAtEnd};
 ghost use Rattle.rml_io.specs.Counts.{raised};
@@ -71,9 +71,23 @@ fn read_chunk<F: Read>(
         Err(_) => return Err(FileErr::Failed),
     };
     *taken = taken.saturating_add(count as u64);
-    if count > room {
+    keep(bytes, &piece[..count], room)
+}
+
+/// Keeps what a read gave, where there is room for so many bytes. It answers whether there may be more: a read that gave
+/// nothing was the last.
+///
+/// # Errors
+/// `TooLong` where it is more than the room, and `Memory` for want of memory alone.
+fn keep(bytes: &mut Vec<u8>, given: &[u8], room: usize) -> Result<bool, FileErr>
+    ensures too_long { room < length given.now → result ≡ Err FileErr.TooLong }
+    ensures within { length given.now ≤ room → IsOkUnless result FileErr.Memory }
+    ensures ok { IfOk result (λ more. (length given.now ≤ room) × (more ≡ nat_lt 0 (length given.now)) × (bytes.new.items ≡ bytes.old.items ++ given.now)) }
+    ensures err { OnErr result (bytes.new.items ≡ bytes.old.items) }
+{
+    if given.len() > room {
         return Err(FileErr::TooLong);
     }
-    bytes.extend_from_slice(&piece[..count])?;
-    Ok(count > 0)
+    bytes.extend_from_slice(given)?;
+    Ok(!given.is_empty())
 }

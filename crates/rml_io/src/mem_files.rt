@@ -114,15 +114,7 @@ impl MemFiles {
 }
 
 impl Files for MemFiles {
-    ghost held = { λ f. Some f.held };
-
-    ghost asked = { λ f. Some f.asked };
-
-    ghost faults = { λ f. f.faults };
-
-    ghost calls = { λ f. f.calls };
-
-    ghost taken = { λ f. f.taken };
+    ghost seen = { λ f. record { held = Some f.held; asked = Some f.asked; faults = f.faults; calls = f.calls; taken = f.taken } };
 
     fn read(&mut self, alloc: Global, name: &str, limit: usize) -> Result<Vec<u8>, FileErr>
         // What stays, and what each read counts.

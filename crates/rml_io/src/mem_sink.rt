@@ -84,9 +84,7 @@ impl MemSink {
 }
 
 impl Sink for MemSink {
-    ghost written = { λ s. Some s.written };
-
-    ghost faults = { λ s. s.faults };
+    ghost seen = { λ s. record { text = Some s.written; faults = s.faults } };
 
     /// Takes what fits the room that is left. A listed write fails, and takes nothing.
     fn write(&mut self, piece: &[u8]) -> Result<usize, Failed>

@@ -26,12 +26,12 @@ fn copy<F: Files, S: Sink>(
     name: &str,
     sink: &mut S,
 ) -> Result<(), CopyErr>
-    ensures copied { OnOk result (IfSome (F.held files.old) (λ held. (bytes : List ℕ)
-        × (fin_map.get held name.now ≡ Some bytes) × (S.written sink.new ≡ and_bytes (S.written sink.old) bytes))) }
-    ensures read_fault { IsErrOf result (CopyErr.Read FileErr.Failed) → Rose (F.faults files.old) (F.faults files.new) }
-    ensures write_fault { IsErrOf result CopyErr.Write → Rose (S.faults sink.old) (S.faults sink.new) }
-    ensures calls { F.calls files.new ≡ raised (F.calls files.old) 1 }
-    ensures held { F.held files.new ≡ F.held files.old }
+    ensures copied { OnOk result (IfSome (F.seen files.old).held (λ held. (bytes : List ℕ)
+        × (fin_map.get held name.now ≡ Some bytes) × ((S.seen sink.new).text ≡ and_bytes (S.seen sink.old).text bytes))) }
+    ensures read_fault { IsErrOf result (CopyErr.Read FileErr.Failed) → Rose (F.seen files.old).faults (F.seen files.new).faults }
+    ensures write_fault { IsErrOf result CopyErr.Write → Rose (S.seen sink.old).faults (S.seen sink.new).faults }
+    ensures calls { (F.seen files.new).calls ≡ raised (F.seen files.old).calls 1 }
+    ensures held { (F.seen files.new).held ≡ (F.seen files.old).held }
 {
     let bytes = match files.read(alloc, name, 8) {
         Ok(bytes) => bytes,
@@ -211,18 +211,25 @@ fn reads_more_than_one_piece(rt: HostRuntime) -> Result<(), Fail> {
     Ok(())
 }
 
+/// As many bytes as a host lets a name have.
+const LONG_NAME: &str =
+    "nnnnnnnnnnnnnnnnnnnnnnnnnnnnnnnnnnnnnnnnnnnnnnnnnnnnnnnnnnnnnnnnnnnnnnnnnnnnnnnnnnnnnnnnnnnnnnnnnnnn\
+ooooooooooooooooooooooooooooooooooooooooooooooooooooooooooooooooooooooooooooooooooooooooooooooooooooooooooooooooooooooooooooooooooooooooooooooooooooooooooo";
+
 #[test]
 fn reads_a_file_of_the_host(rt: HostRuntime) -> Result<(), Fail> {
-    const NAME: &str = "rml_io_reads_a_file_of_the_host.txt";
     let alloc = rt.alloc();
-    fs::write(&rt, NAME, b"hello".as_slice())?;
+    for name in ["rml_io_reads_a_file_of_the_host.txt", LONG_NAME] {
+        fs::write(&rt, name, b"hello".as_slice())?;
+        let mut files = HostFiles::new(&rt);
+        let whole = files.read(alloc, name, 5);
+        let refused = files.read(alloc, name, 4);
+        fs::remove_file(&rt, name)?;
+        assert_eq!(rt; whole?.as_slice(), b"hello".as_slice());
+        assert_eq!(rt; refused.err(), Some(FileErr::TooLong));
+        assert_eq!(rt; files.read(alloc, name, 5).err(), Some(FileErr::Failed));
+    }
     let mut files = HostFiles::new(&rt);
-    let whole = files.read(alloc, NAME, 5);
-    let refused = files.read(alloc, NAME, 4);
-    fs::remove_file(&rt, NAME)?;
-    assert_eq!(rt; whole?.as_slice(), b"hello".as_slice());
-    assert_eq!(rt; refused.err(), Some(FileErr::TooLong));
-    assert_eq!(rt; files.read(alloc, NAME, 5).err(), Some(FileErr::Failed));
     assert_eq!(rt; files.read(alloc, ".", 5).err(), Some(FileErr::Failed));
     Ok(())
 }

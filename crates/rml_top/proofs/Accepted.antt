@@ -79,8 +79,7 @@ first-read bytes ts literals h f =
       spots,
       record {
         spelled = record { shown = shown; spelled = (h.parts, h.reaches, refl); numbered = record { names = refl; tokens = refl } };
-        derived = tree.1;
-        within = within spots (fits-all names f.parts spots told are);
+        is_tree = record { derived = tree.1; within = within spots (fits-all names f.parts spots told are) };
       },
     ) in
     (tree.0 ∷ [], names, (names, read, refl))

@@ -160,7 +160,7 @@ module _ (names : List (List ℕ)) where
         head = _;
         end = i;
         are = g.no_more_goals refl;
-        concludes = t.conclusion (p.pargs1 (p.bracketed (p.some_pats (p.unbound refl (p.chain (p.atom (p.simple p.any)) (p.no_papp refl))) (p.no_more_pats refl)))) (t.no_results refl);
+        concludes = t.conclusion (p.pargs1 (p.bracketed (p.some_pats (p.unbound tt (p.chain (p.atom (p.simple p.any)) (p.no_papp refl))) (p.no_more_pats refl)))) (t.no_results refl);
         lacks = refl;
       })
       us (f ∙ ap (λ (x : Token). x ∷ tokens conclusion) same)

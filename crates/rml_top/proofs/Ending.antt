@@ -1,25 +1,24 @@
--- The answers one by one, from what is due before the note.
-use Rattle.std.proofs.Common.{rules, ◌≡◌, ℕ, ◌+◌, List, [], length, Some, None, refl, sym, ap, subst, ◌∙◌, arith, inl, inr, take_all}
-use Rattle.std.specs.Prelude.{ℤ, ◌⊎◌, codes, IsSome}
+-- How a call ends, from what is due before the note.
+use Rattle.std.proofs.Common.{rules, ◌≡◌, ℕ, List, [], length, Some, None, refl, sym, ap, subst, ◌∙◌, arith, inl, inr, take_all}
+use Rattle.std.specs.Prelude.{ℤ, ◌⊎◌, IsSome}
 use Rattle.std.specs.declared.option.Option.{Option}
-use Rattle.rml_base.specs.declared.place.Place.{Place}
 use Rattle.rml_io.specs.Counts.{Rose}
 use Rattle.rml_io.specs.Files.{Held}
-use Rattle.rml_io.specs.Sink.{and_bytes, TookFront}
+use Rattle.rml_io.specs.Sink.{SinkSeen, and_bytes, TookFront}
 use Rattle.rml_io.proofs.Fronts.{and_bytes-nil}
-use Rattle.rml_stages.specs.declared.refusal.Kind.{Kind}
-use Rattle.rml_stages.specs.declared.refusal.Which.{Which}
 use Rattle.rml_words.specs.Forms.{Asks}
-use Rattle.rml_top.specs.Answers.{IsDueFor, IsWhole, IsRefused, IsReadFault, OutputFailed, NoteFailed, NoFault, RunsFirstForm, IsAnswered}
-use Rattle.rml_top.specs.Due.{IsDue, usage, unbuilt_command, many_texts, many_arguments, long_text, long_texts, limit, syntax_fault, done, unbuilt}
-use Rattle.rml_top.specs.Ends.{ReadsTexts, Ends, Counts, Takes, IsPerformed, Call, Noted, note_for}
-use Rattle.rml_top.specs.Line.{Reads, text_names, names_of}
-use Rattle.rml_top.specs.Notes.{name_at, with_file, IsNoted}
-use Rattle.rml_top.specs.Sources.{HaveRead}
+use Rattle.rml_top.specs.Answers.{IsDueFor, NoFault, IsAnswered, OnlyAccepted}
+use Rattle.rml_top.specs.Due.{IsDue, IsMissing, usage, unbuilt_command, many_texts, many_arguments, long_text, long_texts, limit, syntax_fault, done, unbuilt}
+use Rattle.rml_top.specs.Ends.{Work, ReadsTexts, Ends, IsPerformed, Call, note_for}
+use Rattle.rml_top.specs.Line.{Reads}
+use Rattle.rml_top.specs.Notes.{IsNoted}
 use Rattle.rml_top.specs.declared.status.Status.{Status}
 use Rattle.rml_top.specs.declared.status.Status.TheVariants.{Done, Usage, ReadFault, WriteFault, Syntax, Limit, Memory, Unbuilt}
-use Rattle.rml_top.proofs.FirstDue.{first-due}
-use Rattle.rml_top.proofs.Unique.{one-due}
+use Rattle.rml_top.proofs.Unique.{due-or-missing, one-due}
+
+-- the note of what is due
+abbrev Noted : Call → Status → Status → Type 0
+Noted c due status = IsNoted c.note c.note' (note_for c.work.line due) due status
 
 -- ---- what is due
 
@@ -58,109 +57,25 @@ line-of held words line status text (syntax_fault ts d t r) = tt
 line-of held words line status text (done {asks = asks} ts d t o) = (asks, refl, d)
 line-of held words line status text (unbuilt ts d t a n) = tt
 
--- ---- the status is what is due, and its note stands
-
-record Stands (c : Call) (status : Status) : Type 0 where
-  pub performed : IsPerformed c.work status
-  pub note : c.note' ≡ and_bytes c.note (note_for c.work.line status)
-
-stands : (c : Call) (due status is : Status) → IsPerformed c.work due → Noted c due status → status ≡ is → (is ≡ WriteFault → ⊥) → Stands c is
-stands c due status is p noted at other =
-    elim noted [
-      | inl n ↦ (let same : due ≡ is = sym n.0 ∙ at in
-          record {
-            performed = subst (λ (d : Status). IsPerformed c.work d) same p;
-            note = n.1 ∙ ap (λ (d : Status). and_bytes c.note (note_for c.work.line d)) same;
-          })
-      | inr n ↦ absurd (other (sym at ∙ n.0))
-    ]
-
--- with a status of which `Ends` says what is due
-whole : (c : Call) (status : Status) (text : List ℕ) → Stands c status → IsDueFor c.work status text → c.work.out' ≡ and_bytes c.work.out text → Counts c.work status → Takes c.work status → IsWhole c status text
-whole c status text s d out counts takes = record { due = d; out = out; note = s.note; read = counts; taken = takes }
-
-refused : (c : Call) (status : Status) (text : List ℕ) → Stands c status → text ≡ [] → IsDueFor c.work status text → c.work.out' ≡ and_bytes c.work.out text → IsRefused c status
-refused c status text s e d out =
-    let bytes : c.work.out' ≡ and_bytes c.work.out [] = out ∙ ap (λ (t : List ℕ). and_bytes c.work.out t) e in
-    record {
-      whole = whole c status [] s (subst (λ (t : List ℕ). IsDueFor c.work status t) e d) bytes s.performed.counts s.performed.takes;
-      out = bytes ∙ and_bytes-nil c.work.out;
-    }
-
-done-so : (c : Call) (k : Option ℤ) → Stands c (Done k) → (k ≡ None) × (text : List ℕ) × IsWhole c (Done None) text
-done-so c k s =
-    let e = s.performed.ends in
-    let none : k ≡ None = plain c.work.files.held c.work.words c.work.line (Done k) e.0 e.1 in
-    (none, e.0, subst (λ (j : Option ℤ). IsWhole c (Done j) e.0) none (whole c (Done k) e.0 s e.1 e.2 s.performed.counts s.performed.takes))
-
-usage-so : (c : Call) → Stands c Usage → (c.work.line ≡ None) × IsRefused c Usage
-usage-so c s =
-    let e = s.performed.ends in
-    (line-of c.work.files.held c.work.words c.work.line Usage e.0 e.1, refused c Usage e.0 s (plain c.work.files.held c.work.words c.work.line Usage e.0 e.1) e.1 e.2)
-
-syntax-so : (c : Call) (place : Place) (kind : Kind) → Stands c (Syntax place kind) → IsRefused c (Syntax place kind)
-syntax-so c place kind s = let e = s.performed.ends in refused c (Syntax place kind) e.0 s (plain c.work.files.held c.work.words c.work.line (Syntax place kind) e.0 e.1) e.1 e.2
-
-limit-so : (c : Call) (place : Option Place) (which : Which) → Stands c (Limit place which) → IsRefused c (Limit place which)
-limit-so c place which s = let e = s.performed.ends in refused c (Limit place which) e.0 s (plain c.work.files.held c.work.words c.work.line (Limit place which) e.0 e.1) e.1 e.2
-
-unbuilt-so : (c : Call) → Stands c Unbuilt → IsRefused c Unbuilt
-unbuilt-so c s = let e = s.performed.ends in refused c Unbuilt e.0 s (plain c.work.files.held c.work.words c.work.line Unbuilt e.0 e.1) e.1 e.2
-
-read-fault-so : (c : Call) (k : ℕ) → Stands c (ReadFault k) → IsReadFault c k
-read-fault-so c k s =
-    let e = s.performed.ends in
-    let names : names_of c.work.line ≡ text_names e.0 = ap names_of e.1 in
-    record {
-      asks = e.0;
-      line = e.1;
-      reads = e.2;
-      reached = e.3;
-      fault = e.4;
-      out = e.5;
-      note = s.note ∙ ap (λ (ns : List (List ℕ)). and_bytes c.note (with_file (name_at ns k) (codes "read fault\n"))) names;
-      read = subst (λ (ns : List (List ℕ)). HaveRead ns (k + 1) c.work.files c.work.files') names s.performed.counts;
-    }
-
--- ---- faults of writes
-
-write-fault-so : (c : Call) (due status : Status) → IsPerformed c.work due → Noted c due status → status ≡ WriteFault → OutputFailed c ⊎ NoteFailed c
-write-fault-so c due status p noted at =
-    elim noted [
-      | inl n ↦ (let same : due ≡ WriteFault = sym n.0 ∙ at in
-          let q : IsPerformed c.work WriteFault = subst (λ (d : Status). IsPerformed c.work d) same p in
-          inl record {
-            fault = q.ends.0;
-            text = q.ends.1;
-            due = q.ends.2;
-            out = q.ends.3;
-            note = n.1 ∙ ap (λ (d : Status). and_bytes c.note (note_for c.work.line d)) same;
-          })
-      | inr n ↦ inr record { fault = n.1; due = due; performed = p; note = n.2 }
-    ]
-
 -- ---- what was written to the output
-
-abbrev Accepted : Call → Type 0
-Accepted c = (c.work.out' ≡ c.work.out) ⊎ ((text : List ℕ) × IsDueFor c.work (Done None) text × TookFront c.work.out c.work.out' text)
 
 whole-front : (before after : Option (List ℕ)) (text : List ℕ) → after ≡ and_bytes before text → TookFront before after text
 whole-front before after text e = record { count = length text; within = omega arith; taken = e ∙ ap (λ (t : List ℕ). and_bytes before t) (sym (take_all (length text) text (omega arith))) }
 
-nothing-written : (c : Call) (status : Status) (text : List ℕ) → text ≡ [] → c.work.out' ≡ and_bytes c.work.out text → Accepted c
-nothing-written c status text e out = inl (out ∙ ap (λ (t : List ℕ). and_bytes c.work.out t) e ∙ and_bytes-nil c.work.out)
+nothing-written : (w : Work) (text : List ℕ) → text ≡ [] → w.out'.text ≡ and_bytes w.out.text text → OnlyAccepted w
+nothing-written w text e out = inl (out ∙ ap (λ (t : List ℕ). and_bytes w.out.text t) e ∙ and_bytes-nil w.out.text)
 
-accepted : (c : Call) (due : Status) → Ends c.work due → Accepted c
-accepted c (Done k) e =
-    let none : k ≡ None = plain c.work.files.held c.work.words c.work.line (Done k) e.0 e.1 in
-    inr (e.0, subst (λ (j : Option ℤ). IsDueFor c.work (Done j) e.0) none e.1, whole-front c.work.out c.work.out' e.0 e.2)
-accepted c Usage e = nothing-written c Usage e.0 (plain c.work.files.held c.work.words c.work.line Usage e.0 e.1) e.2
-accepted c (ReadFault k) e = inl e.5
-accepted c WriteFault e = inr (e.1, e.2, e.3)
-accepted c (Syntax p k) e = nothing-written c (Syntax p k) e.0 (plain c.work.files.held c.work.words c.work.line (Syntax p k) e.0 e.1) e.2
-accepted c (Limit p k) e = nothing-written c (Limit p k) e.0 (plain c.work.files.held c.work.words c.work.line (Limit p k) e.0 e.1) e.2
-accepted c Memory e = inl e.1
-accepted c Unbuilt e = nothing-written c Unbuilt e.0 (plain c.work.files.held c.work.words c.work.line Unbuilt e.0 e.1) e.2
+pub accepted : (w : Work) (due : Status) → Ends w due → OnlyAccepted w
+accepted w (Done k) e =
+    let none : k ≡ None = plain w.files.held w.words w.line (Done k) e.0 e.1 in
+    inr (e.0, subst (λ (j : Option ℤ). IsDueFor w (Done j) e.0) none e.1, whole-front w.out.text w.out'.text e.0 e.2)
+accepted w Usage e = nothing-written w e.0 (plain w.files.held w.words w.line Usage e.0 e.1) e.2
+accepted w (ReadFault k) e = inl e.5
+accepted w WriteFault e = inr (e.1, e.2, e.3)
+accepted w (Syntax p k) e = nothing-written w e.0 (plain w.files.held w.words w.line (Syntax p k) e.0 e.1) e.2
+accepted w (Limit p k) e = nothing-written w e.0 (plain w.files.held w.words w.line (Limit p k) e.0 e.1) e.2
+accepted w Memory e = inl e.1
+accepted w Unbuilt e = nothing-written w e.0 (plain w.files.held w.words w.line Unbuilt e.0 e.1) e.2
 
 -- ---- that comes which is due
 
@@ -191,19 +106,22 @@ exact c is status p noted calm told due text d =
       | inr n ↦ absurd (calm.note n.1)
     ]
 
--- what a text of the first form prints
-first-whole : (c : Call) (text : List ℕ) → Decided c → IsDueFor c.work (Done None) text → (printed : List ℕ) → IsWhole c (Done None) printed → IsWhole c (Done None) text
-first-whole c text told d printed w =
-    subst (λ (t : List ℕ). IsWhole c (Done None) t) (one-due c.work.files.held c.work.words c.work.line (Done None) (Done None) printed text told w.due d).1 w
+-- ---- a file that is not held
 
-first-form : (c : Call) (is status : Status) → IsPerformed c.work is → Noted c is status → NoFault c → IsSome c.work.files.held → (text : List ℕ) → RunsFirstForm c.work text → ((status ≡ Done None) × IsWhole c (Done None) text) ⊎ (status ≡ Memory)
-first-form c is status p noted calm told text r =
-    let d = first-due c.work text r in
-    elim (exact c is status p noted calm told (Done None) text d) [
-      | inl e ↦ (let s = done-so c None (stands c is status (Done None) p noted e (λ x. cc)) in
-          inl (e, first-whole c text (λ asks l k. told-held c.work.files.held told) d s.1 s.2))
-      | inr e ↦ inr e
-    ]
+no-due : (w : Work) (files : Held) (number : ℕ) (status : Status) (text : List ℕ) → w.files.held ≡ Some files → IsMissing files w.line number → IsDueFor w status text → ⊥
+no-due w files number status text told m d = due-or-missing files w.words w.line status text number (subst (λ (h : Option Held). IsDue h w.words w.line status text) told d) m
+
+missing-due : (w : Work) (due : Status) → Ends w due → (files : Held) (number : ℕ) → w.files.held ≡ Some files → IsMissing files w.line number → ((k : ℕ) × (due ≡ ReadFault k)) ⊎ (due ≡ Memory)
+missing-due w (Done k) e files number told m = absurd (no-due w files number (Done k) e.0 told m e.1)
+missing-due w Usage e files number told m = absurd (no-due w files number Usage e.0 told m e.1)
+missing-due w (ReadFault k) e files number told m = inl (k, refl)
+missing-due w WriteFault e files number told m = absurd (no-due w files number (Done None) e.1 told m e.2)
+missing-due w (Syntax p k) e files number told m = absurd (no-due w files number (Syntax p k) e.0 told m e.1)
+missing-due w (Limit p k) e files number told m = absurd (no-due w files number (Limit p k) e.0 told m e.1)
+missing-due w Memory e files number told m = inr refl
+missing-due w Unbuilt e files number told m = absurd (no-due w files number Unbuilt e.0 told m e.1)
+
+-- ---- where no text is read
 
 worded : (c : Call) (is : Status) → Ends c.work is → ¬ ReadsTexts c.work → (due : Status) (text : List ℕ) → IsDueFor c.work due text → is ≡ due
 worded c (Done k) e none due text d = same-due c (Done k) due e.0 text (λ asks l r. absurd (none (asks, l, r))) e.1 d
@@ -215,7 +133,7 @@ worded c (Limit p k) e none due text d = same-due c (Limit p k) due e.0 text (λ
 worded c Memory e none due text d = absurd (none e.0)
 worded c Unbuilt e none due text d = same-due c Unbuilt due e.0 text (λ asks l r. absurd (none (asks, l, r))) e.1 d
 
-by-words : (c : Call) (is status : Status) → IsPerformed c.work is → Noted c is status → ¬ Rose c.notes c.notes' → ¬ ReadsTexts c.work → (due : Status) (text : List ℕ) → IsDueFor c.work due text → status ≡ due
+by-words : (c : Call) (is status : Status) → IsPerformed c.work is → Noted c is status → ¬ Rose c.note.faults c.note'.faults → ¬ ReadsTexts c.work → (due : Status) (text : List ℕ) → IsDueFor c.work due text → status ≡ due
 by-words c is status p noted calm none due text d =
     elim noted [ inl n ↦ n.0 ∙ worded c is p.ends none due text d | inr n ↦ absurd (calm n.1) ]
 
@@ -226,28 +144,17 @@ answers c due status p n = record {
   due = due;
   performed = p;
   noted = n;
-  answers = record {
-    done = λ k at. done-so c k (stands c due status (Done k) p n at (λ x. cc));
-    usage = λ at. usage-so c (stands c due status Usage p n at (λ x. cc));
-    read_fault = λ k at. read-fault-so c k (stands c due status (ReadFault k) p n at (λ x. cc));
-    write_fault = λ at. write-fault-so c due status p n at;
-    syntax_fault = λ place kind at. syntax-so c place kind (stands c due status (Syntax place kind) p n at (λ x. cc));
-    limit = λ place which at. limit-so c place which (stands c due status (Limit place which) p n at (λ x. cc));
-    memory = λ at. (let s = stands c due status Memory p n at (λ x. cc) in (s.performed.ends.0, s.performed.ends.1, s.note));
-    unbuilt = λ at. unbuilt-so c (stands c due status Unbuilt p n at (λ x. cc));
-    only_accepted = accepted c due p.ends;
-    exact = λ calm told d text h. exact c due status p n calm told d text h;
-    first_form = λ calm told text r. first-form c due status p n calm told text r;
-    by_words = λ calm none d text h. by-words c due status p n calm none d text h;
-  };
+  exact = λ calm told is text d. exact c due status p n calm told is text d;
+  missing = λ files number told m. missing-due c.work due p.ends files number told m;
+  by_words = λ calm none is text d. by-words c due status p n calm none is text d;
 }
 
 -- ---- a note that is not written
 
 -- where the call is done, that was due
-pub done-due : (before after : Option (List ℕ)) (faults faults' : ℕ) (text : List ℕ) (due status : Status) (k : Option ℤ) → IsNoted before after faults faults' text due status → status ≡ Done k → due ≡ Done k
-done-due before after faults faults' text due status k (inl n) at = sym n.0 ∙ at
-done-due before after faults faults' text due status k (inr n) at = absurd (let clash = sym at ∙ n.0 in cc)
+pub done-due : (before after : SinkSeen) (text : List ℕ) (due status : Status) (k : Option ℤ) → IsNoted before after text due status → status ≡ Done k → due ≡ Done k
+done-due before after text due status k (inl n) at = sym n.0 ∙ at
+done-due before after text due status k (inr n) at = absurd (let clash = sym at ∙ n.0 in cc)
 
-pub usage-not-done : (before after : Option (List ℕ)) (faults faults' : ℕ) (text : List ℕ) (status : Status) (k : Option ℤ) → IsNoted before after faults faults' text Usage status → status ≡ Done k → ⊥
-usage-not-done before after faults faults' text status k n at = let clash = done-due before after faults faults' text Usage status k n at in cc
+pub usage-not-done : (before after : SinkSeen) (text : List ℕ) (status : Status) (k : Option ℤ) → IsNoted before after text Usage status → status ≡ Done k → ⊥
+usage-not-done before after text status k n at = let clash = done-due before after text Usage status k n at in cc

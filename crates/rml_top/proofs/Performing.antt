@@ -4,7 +4,7 @@ use Rattle.std.proofs.lemmas.List.{length-map, get_or-map}
 use Rattle.std.specs.Prelude.{ℤ, All}
 use Rattle.std.specs.declared.option.Option.{Option}
 use Rattle.rml_base.specs.declared.place.Place.{Place}
-use Rattle.rml_io.specs.Files.{Held}
+use Rattle.rml_io.specs.Files.{Held, FilesSeen}
 use Rattle.rml_io.specs.Sink.{and_bytes}
 use Rattle.rml_io.proofs.Fronts.{and_bytes-nil}
 use Rattle.rml_lex.specs.Places.{start}
@@ -25,7 +25,7 @@ use Rattle.rml_top.specs.Due.{AreRefused, IsDue, usage, unbuilt_command, many_te
 use Rattle.rml_top.specs.Ends.{Work, Ends, Counts, Takes, IsPerformed, read_by}
 use Rattle.rml_top.specs.Line.{Reads, text_names, names_of}
 use Rattle.rml_top.specs.Performed.{Performed}
-use Rattle.rml_top.specs.Sources.{Seen, AreSources, HaveRead, HaveReadSome, Stopped}
+use Rattle.rml_top.specs.Sources.{AreSources, HaveRead, HaveReadSome, Stopped}
 use Rattle.rml_top.specs.Stops.{status_of}
 use Rattle.rml_top.specs.declared.sources.NotRead.{NotRead}
 use Rattle.rml_top.specs.declared.sources.NotRead.TheVariants as not_read
@@ -54,7 +54,7 @@ settled held words line status text (syntax_fault ts d t r) = tt
 settled held words line status text (done ts d t o) = tt
 settled held words line status text (unbuilt ts d t a n) = tt
 
-due-ends : (w : Work) (status : Status) (text : List ℕ) → IsDue w.files.held w.words w.line status text → w.out' ≡ and_bytes w.out text → Ends w status
+due-ends : (w : Work) (status : Status) (text : List ℕ) → IsDue w.files.held w.words w.line status text → w.out'.text ≡ and_bytes w.out.text text → Ends w status
 due-ends w (Done k) text d e = (text, d, e)
 due-ends w Usage text d e = (text, d, e)
 due-ends w (ReadFault k) text d e = absurd (settled w.files.held w.words w.line (ReadFault k) text d)
@@ -91,14 +91,14 @@ takes-none w names (Limit (Some p) which.Rules) e = tt
 takes-none w names Memory e = tt
 takes-none w names Unbuilt e = tt
 
-read-none : (names : List (List ℕ)) (count : ℕ) (seen : Seen) → count ≡ 0 → HaveRead names count seen seen
+read-none : (names : List (List ℕ)) (count : ℕ) (seen : FilesSeen) → count ≡ 0 → HaveRead names count seen seen
 read-none names count seen e = subst (λ (n : ℕ). HaveRead names n seen seen) (sym e) record { asked = told-nothing seen.asked; calls = refl }
 
-pub by-words : (w : Work) (status : Status) → w.files' ≡ w.files → w.out' ≡ w.out → IsDue w.files.held w.words w.line status [] → read_by (length (names_of w.line)) status ≡ 0 → IsPerformed w status
+pub by-words : (w : Work) (status : Status) → w.files' ≡ w.files → w.out'.text ≡ w.out.text → IsDue w.files.held w.words w.line status [] → read_by (length (names_of w.line)) status ≡ 0 → IsPerformed w status
 by-words w status files out d none = record {
-  ends = due-ends w status [] d (out ∙ sym (and_bytes-nil w.out));
+  ends = due-ends w status [] d (out ∙ sym (and_bytes-nil w.out.text));
   counts = due-counts w status (settled w.files.held w.words w.line status [] d)
-      (subst (λ (s : Seen). HaveRead (names_of w.line) (read_by (length (names_of w.line)) status) w.files s) (sym files) (read-none (names_of w.line) (read_by (length (names_of w.line)) status) w.files none));
+      (subst (λ (s : FilesSeen). HaveRead (names_of w.line) (read_by (length (names_of w.line)) status) w.files s) (sym files) (read-none (names_of w.line) (read_by (length (names_of w.line)) status) w.files none));
   takes = takes-none w (length (names_of w.line)) status none;
 }
 
@@ -115,19 +115,19 @@ due-for w asks status text e d = subst (λ (l : Option Asks). IsDue w.files.held
 abbrev for-line : (w : Work) (asks : Asks) (P : List (List ℕ) → Type 0) → w.line ≡ Some asks → P (text_names asks) → P (names_of w.line)
 for-line w asks P e p = subst (λ (l : Option Asks). P (names_of l)) (sym e) p
 
-pub stopped-so : (w : Work) (asks : Asks) (why : NotRead) → Begun w asks → w.out' ≡ w.out → Stopped (text_names asks) w.files w.files' why → IsPerformed w (status_of why)
+pub stopped-so : (w : Work) (asks : Asks) (why : NotRead) → Begun w asks → w.out'.text ≡ w.out.text → Stopped (text_names asks) w.files w.files' why → IsPerformed w (status_of why)
 stopped-so w asks (not_read.Fault k) b out s = record {
   ends = (asks, b.line, b.reads, s.0, s.1, out);
   counts = for-line w asks (λ ns. HaveRead ns (k + 1) w.files w.files') b.line s.2;
   takes = tt;
 }
 stopped-so w asks (not_read.Bytes k) b out s = record {
-  ends = ([], due-for w asks (Limit (Some (start k)) which.Bytes) [] b.line (long_text b.reads s.0 s.1), out ∙ sym (and_bytes-nil w.out));
+  ends = ([], due-for w asks (Limit (Some (start k)) which.Bytes) [] b.line (long_text b.reads s.0 s.1), out ∙ sym (and_bytes-nil w.out.text));
   counts = for-line w asks (λ ns. HaveRead ns (k + 1) w.files w.files') b.line s.3;
   takes = s.2;
 }
 stopped-so w asks (not_read.Total k) b out s = record {
-  ends = ([], due-for w asks (Limit (Some (start k)) which.Total) [] b.line (long_texts b.reads s.0 s.1), out ∙ sym (and_bytes-nil w.out));
+  ends = ([], due-for w asks (Limit (Some (start k)) which.Total) [] b.line (long_texts b.reads s.0 s.1), out ∙ sym (and_bytes-nil w.out.text));
   counts = for-line w asks (λ ns. HaveRead ns (k + 1) w.files w.files') b.line s.3;
   takes = s.2;
 }
@@ -196,11 +196,11 @@ inside-takes w (Some p) which.Rules i = tt
 have-all : (w : Work) (asks : Asks) (sources : List Source) → w.line ≡ Some asks → AreSources (text_names asks) w.files w.files' sources → HaveRead (names_of w.line) (length (names_of w.line)) w.files w.files'
 have-all w asks sources e s = for-line w asks (λ ns. HaveRead ns (length ns) w.files w.files') e s.have_read
 
-have-some : (names : List (List ℕ)) (before after : Seen) → HaveRead names (length names) before after → HaveReadSome names before after
+have-some : (names : List (List ℕ)) (before after : FilesSeen) → HaveRead names (length names) before after → HaveReadSome names before after
 have-some names before after h = record { count = length names; told = length names; within = omega arith; fewer = omega arith; asked = h.asked; calls = h.calls }
 
 pub performed-so : (w : Work) (asks : Asks) (sources : List Source) (status : Status) → Begun w asks → AreSources (text_names asks) w.files w.files' sources
-    → Performed w.words asks (contents sources) w.out w.out' w.writes w.writes' status → IsPerformed w status
+    → Performed w.words asks (contents sources) w.out w.out' status → IsPerformed w status
 performed-so w asks sources (Done k) b s p =
     let due : IsDue w.files.held w.words (Some asks) (Done k) p.1 = subst (λ (j : Option ℤ). IsDue w.files.held w.words (Some asks) (Done j) p.1) (sym p.0) (done (contents sources) b.reads s.texts p.2) in
     record { ends = (p.1, due-for w asks (Done k) p.1 b.line due, p.3); counts = have-all w asks sources b.line s; takes = tt }
@@ -210,20 +210,20 @@ performed-so w asks sources WriteFault b s p = record {
   takes = tt;
 }
 performed-so w asks sources (Syntax place kind) b s p = record {
-  ends = ([], due-for w asks (Syntax place kind) [] b.line (syntax_fault (contents sources) b.reads s.texts p.0), p.1 ∙ sym (and_bytes-nil w.out));
+  ends = ([], due-for w asks (Syntax place kind) [] b.line (syntax_fault (contents sources) b.reads s.texts p.0), p.1 ∙ sym (and_bytes-nil w.out.text));
   counts = have-all w asks sources b.line s;
   takes = tt;
 }
 performed-so w asks sources (Limit place passed) b s p =
     let i : IsInside place passed = inside (contents sources) (refusal.Limit place passed) p.0 in
     record {
-      ends = ([], due-for w asks (Limit place passed) [] b.line (limit (contents sources) b.reads s.texts p.0), p.1 ∙ sym (and_bytes-nil w.out));
+      ends = ([], due-for w asks (Limit place passed) [] b.line (limit (contents sources) b.reads s.texts p.0), p.1 ∙ sym (and_bytes-nil w.out.text));
       counts = subst (λ (n : ℕ). HaveRead (names_of w.line) n w.files w.files') (sym (inside-reads (length (names_of w.line)) place passed i)) (have-all w asks sources b.line s);
       takes = inside-takes w place passed i;
     }
 performed-so w asks sources Memory b s p = record { ends = ((asks, b.line, b.reads), p); counts = have-some (names_of w.line) w.files w.files' (have-all w asks sources b.line s); takes = tt }
 performed-so w asks sources Unbuilt b s p = record {
-  ends = ([], due-for w asks Unbuilt [] b.line (unbuilt (contents sources) b.reads s.texts p.0 p.1), p.2 ∙ sym (and_bytes-nil w.out));
+  ends = ([], due-for w asks Unbuilt [] b.line (unbuilt (contents sources) b.reads s.texts p.0 p.1), p.2 ∙ sym (and_bytes-nil w.out.text));
   counts = have-all w asks sources b.line s;
   takes = tt;
 }

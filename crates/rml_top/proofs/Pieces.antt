@@ -1,9 +1,8 @@
 -- Cutting a text into pieces, none of them a comment.
 use Rattle.std.proofs.Common.{◌≡◌, ℕ, zero, suc, ◌<◌, ◌≤◌, Bool, true, false, ◌&&◌, not, cond, ◌==◌, List, [], ◌∷◌, ◌++◌, length, take, drop, refl, sym, ap, subst, ◌∙◌, append-nil, arith, length-append, length-take, take-append-drop}
 use Rattle.std.specs.List.{list_all}
-use Rattle.rml_lex.specs.Machine.{Longest, Stuck}
 use Rattle.rml_lex.specs.Reading.{Part, Reaches, IsSound}
-use Rattle.rml_lex.specs.Spelling.{whole}
+use Rattle.rml_lex.specs.Spells.{BeginsNothing, IsLongest}
 use Rattle.rml_lex.proofs.SoFar.{longest-pos, reaches-more}
 use Rattle.rml_lex.proofs.Unique.{no-piece, one-reading, same-length, same-piece, split}
 use Rattle.rml_lex.specs.declared.piece.Piece.{Piece}
@@ -87,23 +86,23 @@ not-true : (b : Bool) → not b ≡ true → b ≡ false
 not-true true e = absurd cc
 not-true false e = refl
 
-refused-here : (others : List Part) (rest : List ℕ) (n : ℕ) (p : Piece) → 0 < length rest → Reaches rest others [] → list_all no_comment others ≡ true → Longest whole rest n p → is_refused p ≡ true → ⊥
+refused-here : (others : List Part) (rest : List ℕ) (n : ℕ) (p : Piece) → 0 < length rest → Reaches rest others [] → list_all no_comment others ≡ true → IsLongest rest n p → is_refused p ≡ true → ⊥
 refused-here [] rest n p pos r c l f = let e = ap length r in omega arith
 refused-here (q ∷ qs) rest n p pos r c l f =
     let same : q.1 ≡ p = same-piece rest (length q.0) n q.1 p r.3 l in
     let none : is_comment q.1 ≡ false = not-true (is_comment q.1) (and-fst (no_comment q) (list_all no_comment qs) c) in
     unsound q.1 (subst (λ (x : Piece). is_refused x ≡ true) (sym same) f) r.4 none
 
-stuck-here : (others : List Part) (rest : List ℕ) → 0 < length rest → Reaches rest others [] → Stuck whole rest → ⊥
+stuck-here : (others : List Part) (rest : List ℕ) → 0 < length rest → Reaches rest others [] → BeginsNothing rest → ⊥
 stuck-here [] rest pos r f = let e = ap length r in omega arith
-stuck-here (q ∷ qs) rest pos r f = let a = f (length q.0) r.3.within in let b = r.3.spelled in cc
+stuck-here (q ∷ qs) rest pos r f = f (length q.0) q.1 r.3.within r.3.spelled
 
-pub no-tokens : (bytes rest : List ℕ) (tokens : List (List ℕ)) (n : ℕ) (p : Piece) → ReadTo bytes rest tokens → 0 < length rest → Longest whole rest n p → is_refused p ≡ true → (others : List (List ℕ)) → HasTokens bytes others → ⊥
+pub no-tokens : (bytes rest : List ℕ) (tokens : List (List ℕ)) (n : ℕ) (p : Piece) → ReadTo bytes rest tokens → 0 < length rest → IsLongest rest n p → is_refused p ≡ true → (others : List (List ℕ)) → HasTokens bytes others → ⊥
 no-tokens bytes rest tokens n p r pos l f others h =
     let on = goes-on r.parts h.parts bytes rest pos r.reaches h.reaches in
     refused-here on.others rest n p pos on.reaches (on.none h.no_comment) l f
 
-pub no-piece-there : (bytes rest : List ℕ) (tokens : List (List ℕ)) → ReadTo bytes rest tokens → 0 < length rest → Stuck whole rest → (others : List (List ℕ)) → HasTokens bytes others → ⊥
+pub no-piece-there : (bytes rest : List ℕ) (tokens : List (List ℕ)) → ReadTo bytes rest tokens → 0 < length rest → BeginsNothing rest → (others : List (List ℕ)) → HasTokens bytes others → ⊥
 no-piece-there bytes rest tokens r pos f others h =
     let on = goes-on r.parts h.parts bytes rest pos r.reaches h.reaches in
     stuck-here on.others rest pos on.reaches f
@@ -135,7 +134,7 @@ spellings-more (p ∷ ps) q = elim (is_blank p.1) as (λ v. cond v (spellings (p
 ]
 
 -- the front of the rest is a piece that a text of the first form may have
-pub read-more : (bytes rest : List ℕ) (tokens : List (List ℕ)) (n : ℕ) (p : Piece) → ReadTo bytes rest tokens → Longest whole rest n p → is_refused p ≡ false
+pub read-more : (bytes rest : List ℕ) (tokens : List (List ℕ)) (n : ℕ) (p : Piece) → ReadTo bytes rest tokens → IsLongest rest n p → is_refused p ≡ false
     → ReadTo bytes (drop n rest) (tokens ++ tokens_in (take n rest, p))
 read-more bytes rest tokens n p r l f =
     let s = sound p f in
@@ -144,16 +143,16 @@ read-more bytes rest tokens n p r l f =
     let pos = longest-pos rest n p l in
     record {
       parts = r.parts ++ (take n rest, p) ∷ [];
-      reaches = reaches-more bytes r.parts rest (take n rest, p) (drop n rest) r.reaches (sym (take-append-drop n rest)) (omega arith) (subst (λ (m : ℕ). Longest whole rest m p) (sym len) l) s.0;
+      reaches = reaches-more bytes r.parts rest (take n rest, p) (drop n rest) r.reaches (sym (take-append-drop n rest)) (omega arith) (subst (λ (m : ℕ). IsLongest rest m p) (sym len) l) s.0;
       no_comments = all-more r.parts (take n rest, p) r.no_comments (rw (s.1) refl);
       tokens_are = ap (λ (x : List (List ℕ)). x ++ tokens_in (take n rest, p)) r.tokens_are ∙ sym (spellings-more r.parts (take n rest, p));
     }
 
-pub read-blank : (bytes rest : List ℕ) (tokens : List (List ℕ)) (n : ℕ) (p : Piece) → ReadTo bytes rest tokens → Longest whole rest n p → is_refused p ≡ false → is_blank p ≡ true → ReadTo bytes (drop n rest) tokens
+pub read-blank : (bytes rest : List ℕ) (tokens : List (List ℕ)) (n : ℕ) (p : Piece) → ReadTo bytes rest tokens → IsLongest rest n p → is_refused p ≡ false → is_blank p ≡ true → ReadTo bytes (drop n rest) tokens
 read-blank bytes rest tokens n p r l f b =
     subst (λ (x : List (List ℕ)). ReadTo bytes (drop n rest) x) (ap (λ (v : Bool). tokens ++ cond v [] (take n rest ∷ [])) b ∙ append-nil tokens) (read-more bytes rest tokens n p r l f)
 
-pub read-token : (bytes rest : List ℕ) (tokens : List (List ℕ)) (n : ℕ) (p : Piece) → ReadTo bytes rest tokens → Longest whole rest n p → is_refused p ≡ false → is_blank p ≡ false → ReadTo bytes (drop n rest) (tokens ++ take n rest ∷ [])
+pub read-token : (bytes rest : List ℕ) (tokens : List (List ℕ)) (n : ℕ) (p : Piece) → ReadTo bytes rest tokens → IsLongest rest n p → is_refused p ≡ false → is_blank p ≡ false → ReadTo bytes (drop n rest) (tokens ++ take n rest ∷ [])
 read-token bytes rest tokens n p r l f b =
     subst (λ (x : List (List ℕ)). ReadTo bytes (drop n rest) x) (ap (λ (v : Bool). tokens ++ cond v [] (take n rest ∷ [])) b) (read-more bytes rest tokens n p r l f)
 

@@ -21,6 +21,8 @@ use Rattle.rml_lex.specs.Machine.{ends, whole_from}
 use Rattle.rml_lex.specs.Places.{place_after}
 use Rattle.rml_lex.specs.Reading.{IsSound, Part, Reaches, Shown, Word, Name, TyVar, Int, Char, Text, Sign, Dashes, marks, tokens_of}
 use Rattle.rml_lex.specs.Spelling.{name_piece, named, whole}
+use Rattle.rml_lex.specs.Spells.{Spells}
+use Rattle.rml_lex.proofs.Wholes.{spells-whole}
 use Rattle.rml_lex.specs.Words.{word_of}
 use Rattle.rml_lex.proofs.Wholes.{letter-blank, letter-digit, letter-on}
 use Rattle.rml_top.specs.FirstForm.{begins, is_dashes, is_literal, is_module_name}
@@ -177,8 +179,8 @@ take-front : (xs ys : List ℕ) → take (length xs) (xs ++ ys) ≡ xs
 take-front [] ys = refl
 take-front (x ∷ xs) ys = ap (λ l. x ∷ l) (take-front xs ys)
 
-part-spelled : (s more bytes : List ℕ) (p : Piece) → bytes ≡ s ++ more → whole (take (length s) bytes) ≡ Some p → whole s ≡ Some p
-part-spelled s more bytes p e w = subst (λ (x : List ℕ). whole x ≡ Some p) (ap (take (length s)) e ∙ take-front s more) w
+part-spelled : (s more bytes : List ℕ) (p : Piece) → bytes ≡ s ++ more → Spells (take (length s) bytes) p → whole s ≡ Some p
+part-spelled s more bytes p e w = spells-whole s p (subst (λ (x : List ℕ). Spells x p) (ap (take (length s)) e ∙ take-front s more) w)
 
 abbrev pub no_comments : List Part → Bool
 no_comments parts = list_all (λ p. not (is_comment p.1)) parts

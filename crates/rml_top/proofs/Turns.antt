@@ -7,12 +7,12 @@ use Rattle.std.proofs.lemmas.List.Sums.{sum_by_push}
 use Rattle.std.proofs.lemmas.List.Elements.{All-append, All-nil}
 use Rattle.std.proofs.Math.Seq.{take-suc}
 use Rattle.rml_io.specs.Counts.{raised}
-use Rattle.rml_io.specs.Files.{Held, and_name}
+use Rattle.rml_io.specs.Files.{Held, FilesSeen, and_name}
 use Rattle.rml_stages.specs.declared.source.Source.{Source}
 use Rattle.rml_top.specs.declared.sources.NotRead.{NotRead}
 use Rattle.rml_top.specs.declared.sources.NotRead.TheVariants as not_read
 use Rattle.rml_top.specs.Reading.{HasRead, MayHaveRead, Next, NextStopped}
-use Rattle.rml_top.specs.Sources.{Seen, IsHeld, AreHeld, total, AreTexts, IsReached, IsTooLong, PassTotal, RoseBy, after_reads, and_names, HaveRead, HaveReadSome, AreSources, Stopped}
+use Rattle.rml_top.specs.Sources.{IsHeld, AreHeld, total, AreTexts, IsReached, IsTooLong, PassTotal, RoseBy, after_reads, and_names, HaveRead, HaveReadSome, AreSources, Stopped}
 
 abbrev texts_of : List Source → List (List ℕ)
 texts_of sources = map (λ s. s.bytes) sources
@@ -21,7 +21,7 @@ abbrev source_names : List Source → List (List ℕ)
 source_names sources = map (λ s. s.name) sources
 
 -- so many of the names were read, and these are their texts, with so many bytes
-pub record ReadTo (names : List (List ℕ)) (count bytes : ℕ) (before now : Seen) (sources : List Source) : Type 0 where
+pub record ReadTo (names : List (List ℕ)) (count bytes : ℕ) (before now : FilesSeen) (sources : List Source) : Type 0 where
   pub within : count ≤ length names
   pub held_is : now.held ≡ before.held
   pub names_are : source_names sources ≡ take count names
@@ -71,7 +71,7 @@ no-texts held = record { are_held = tt; within = record { each = All-nil (λ (x 
 
 -- ---- the loop
 
-pub read-nothing : (names : List (List ℕ)) (seen : Seen) → ReadTo names 0 0 seen seen []
+pub read-nothing : (names : List (List ℕ)) (seen : FilesSeen) → ReadTo names 0 0 seen seen []
 read-nothing names seen = record {
   within = omega arith;
   held_is = refl;
@@ -86,7 +86,7 @@ read-nothing names seen = record {
 name-at : (names : List (List ℕ)) (k : ℕ) → k < length names → take (k + 1) names ≡ take k names ++ slice_index_or names k [] ∷ []
 name-at names k lt = subst (λ (n : ℕ). take n names ≡ take k names ++ get_or names k [] ∷ []) (sym (add-one k)) (take-suc names k [] lt)
 
-has-read : (names : List (List ℕ)) (k : ℕ) (before now after : Seen) → k < length names → HaveRead names k before now → HasRead (slice_index_or names k []) now after → HaveRead names (k + 1) before after
+has-read : (names : List (List ℕ)) (k : ℕ) (before now after : FilesSeen) → k < length names → HaveRead names k before now → HasRead (slice_index_or names k []) now after → HaveRead names (k + 1) before after
 has-read names k before now after lt h r = record {
   asked = r.asked ∙ ap (λ (t : Option (List (List ℕ))). and_name t (slice_index_or names k [])) h.asked ∙ told-more before.asked (take k names) (slice_index_or names k []) ∙ ap (λ (ns : List (List ℕ)). and_names before.asked ns) (sym (name-at names k lt));
   calls = r.calls ∙ ap (λ (n : ℕ). raised n 1) h.calls ∙ counts-more before.calls k;
@@ -95,7 +95,7 @@ has-read names k before now after lt h r = record {
 rose-more : (a b from mid to : ℕ) → RoseBy a from mid → RoseBy b mid to → RoseBy (a + b) from to
 rose-more a b from mid to h k = omega arith
 
-pub read-next : (names : List (List ℕ)) (k bytes : ℕ) (before now after : Seen) (sources : List Source) (source : Source) → k < length names → ReadTo names k bytes before now sources
+pub read-next : (names : List (List ℕ)) (k bytes : ℕ) (before now after : FilesSeen) (sources : List Source) (source : Source) → k < length names → ReadTo names k bytes before now sources
     → Next (slice_index_or names k []) bytes now after source → after.held ≡ now.held → now.faults ≤ after.faults → ReadTo names (k + 1) (bytes + length source.bytes) before after (sources ++ source ∷ [])
 read-next names k bytes before now after sources source lt r n held later =
     let name = slice_index_or names k [] in
@@ -120,7 +120,7 @@ read-next names k bytes before now after sources source lt r n held later =
 take-whole : (names : List (List ℕ)) → take (length names) names ≡ names
 take-whole names = take_all (length names) names (omega arith)
 
-pub read-all : (names : List (List ℕ)) (bytes : ℕ) (before now : Seen) (sources : List Source) → ReadTo names (length names) bytes before now sources → AreSources names before now sources
+pub read-all : (names : List (List ℕ)) (bytes : ℕ) (before now : FilesSeen) (sources : List Source) → ReadTo names (length names) bytes before now sources → AreSources names before now sources
 read-all names bytes before now sources r = record {
   names_are = r.names_are ∙ take-whole names;
   texts = subst (λ (ns : List (List ℕ)). AreTexts before.held ns (texts_of sources)) (take-whole names) r.texts;
@@ -130,7 +130,7 @@ read-all names bytes before now sources r = record {
 split-at : (names : List (List ℕ)) (k : ℕ) → k < length names → names ≡ take k names ++ slice_index_or names k [] ∷ drop (k + 1) names
 split-at names k lt = sym (take-append-drop k names) ∙ ap (λ (ns : List (List ℕ)). take k names ++ ns) (drop-cons names k [] lt ∙ ap (λ (n : ℕ). slice_index_or names k [] ∷ drop n names) (sym (add-one k)))
 
-reached : (names : List (List ℕ)) (k bytes : ℕ) (before now : Seen) (sources : List Source) → k < length names → ReadTo names k bytes before now sources → IsReached before.held names k
+reached : (names : List (List ℕ)) (k bytes : ℕ) (before now : FilesSeen) (sources : List Source) → k < length names → ReadTo names k bytes before now sources → IsReached before.held names k
 reached names k bytes before now sources lt r = record {
   before = take k names;
   name = slice_index_or names k [];
@@ -141,7 +141,7 @@ reached names k bytes before now sources lt r = record {
   read = r.texts;
 }
 
-some-read : (names : List (List ℕ)) (k : ℕ) (before now after : Seen) → k < length names → HaveRead names k before now → MayHaveRead (slice_index_or names k []) now after → HaveReadSome names before after
+some-read : (names : List (List ℕ)) (k : ℕ) (before now after : FilesSeen) → k < length names → HaveRead names k before now → MayHaveRead (slice_index_or names k []) now after → HaveReadSome names before after
 some-read names k before now after lt h m =
     let calls : after.calls ≡ after_reads before.calls (k + 1) = m.calls ∙ ap (λ (n : ℕ). raised n 1) h.calls ∙ counts-more before.calls k in
     elim m.asked [
@@ -149,7 +149,7 @@ some-read names k before now after lt h m =
       | inr e ↦ record { count = k + 1; told = k; within = omega arith; fewer = omega arith; asked = e ∙ h.asked; calls = calls }
     ]
 
-pub stops : (names : List (List ℕ)) (k bytes number : ℕ) (before now after : Seen) (sources : List Source) (why : NotRead) → k < length names → number ≡ k → ReadTo names k bytes before now sources
+pub stops : (names : List (List ℕ)) (k bytes number : ℕ) (before now after : FilesSeen) (sources : List Source) (why : NotRead) → k < length names → number ≡ k → ReadTo names k bytes before now sources
     → NextStopped (slice_index_or names k []) number bytes now after why → Stopped names before after why
 unfolding reached
 stops names k bytes number before now after sources (not_read.Fault j) lt same r s =
@@ -176,7 +176,7 @@ stops names k bytes number before now after sources (not_read.Total j) lt same r
 stops names k bytes number before now after sources not_read.Memory lt same r s = some-read names k before now after lt r.have_read s
 
 -- the source was read, and there was no memory to keep it
-pub stops-late : {T : Type 0} (names : List (List ℕ)) (k bytes : ℕ) (before now after : Seen) (sources : List Source) (source : Source) (result : Result T NotRead) → k < length names → ReadTo names k bytes before now sources
+pub stops-late : {T : Type 0} (names : List (List ℕ)) (k bytes : ℕ) (before now after : FilesSeen) (sources : List Source) (source : Source) (result : Result T NotRead) → k < length names → ReadTo names k bytes before now sources
     → Next (slice_index_or names k []) bytes now after source → IsErrAnd result (λ e. e ≡ not_read.Memory) → IfErr result (Stopped names before after)
 stops-late names k bytes before now after sources source (Ok x) lt r n e = tt
 stops-late names k bytes before now after sources source (Err why) lt r n e =

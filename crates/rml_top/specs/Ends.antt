@@ -4,27 +4,26 @@ use Rattle.std.specs.declared.option.Option.{Option}
 use Rattle.std.specs.declared.option.Option.TheVariants.{Some, None}
 use Rattle.rml_base.specs.declared.limits.TheConstants.{BYTES, TOTAL}
 use Rattle.rml_io.specs.Counts.{Rose}
-use Rattle.rml_io.specs.Sink.{and_bytes, TookFront}
+use Rattle.rml_io.specs.Files.{FilesSeen}
+use Rattle.rml_io.specs.Sink.{SinkSeen, and_bytes, TookFront}
 use Rattle.rml_stages.specs.declared.refusal.Which.TheVariants as which
 use Rattle.rml_words.specs.Forms.{Asks}
 use Rattle.rml_top.specs.declared.status.Status.{Status}
 use Rattle.rml_top.specs.declared.status.Status.TheVariants.{Done, ReadFault, WriteFault, Limit, Memory}
 use Rattle.rml_top.specs.Due.{IsDue}
 use Rattle.rml_top.specs.Line.{Reads, names_of, text_names, is_run}
-use Rattle.rml_top.specs.Notes.{note_of, IsNoted}
-use Rattle.rml_top.specs.Sources.{Seen, IsReached, HaveRead, HaveReadSome, RoseBy}
+use Rattle.rml_top.specs.Notes.{note_of}
+use Rattle.rml_top.specs.Sources.{IsReached, HaveRead, HaveReadSome, RoseBy}
 
--- What is seen of a call from outside, but for its note: its words and what they ask for, and the files, and the output with its
--- count of faults, before and after it.
+-- What is seen of a call from outside, but for its note: its words and what they ask for, and the files and the output before and
+-- after it.
 pub record Work : Type 0 where
   pub words : List (List ℕ)
   pub line : Option Asks
-  pub files : Seen
-  pub files' : Seen
-  pub out : Option (List ℕ)
-  pub out' : Option (List ℕ)
-  pub writes : ℕ
-  pub writes' : ℕ
+  pub files : FilesSeen
+  pub files' : FilesSeen
+  pub out : SinkSeen
+  pub out' : SinkSeen
 
 -- the words are a line whose texts are read
 abbrev pub ReadsTexts : Work → Type 0
@@ -33,11 +32,11 @@ ReadsTexts w = (asks : Asks) × (w.line ≡ Some asks) × Reads asks
 -- This is due, and this was written to the output.
 abbrev pub Ends : Work → Status → Type 0
 -- a read failed
-Ends w (ReadFault k) = (asks : Asks) × (w.line ≡ Some asks) × Reads asks × IsReached w.files.held (text_names asks) k × Rose w.files.faults w.files'.faults × (w.out' ≡ w.out)
+Ends w (ReadFault k) = (asks : Asks) × (w.line ≡ Some asks) × Reads asks × IsReached w.files.held (text_names asks) k × Rose w.files.faults w.files'.faults × (w.out'.text ≡ w.out.text)
 -- a write of what is due failed
-Ends w WriteFault = Rose w.writes w.writes' × (text : List ℕ) × IsDue w.files.held w.words w.line (Done None) text × TookFront w.out w.out' text
-Ends w Memory = ReadsTexts w × (w.out' ≡ w.out)
-Ends w status = (text : List ℕ) × IsDue w.files.held w.words w.line status text × (w.out' ≡ and_bytes w.out text)
+Ends w WriteFault = Rose w.out.faults w.out'.faults × (text : List ℕ) × IsDue w.files.held w.words w.line (Done None) text × TookFront w.out.text w.out'.text text
+Ends w Memory = ReadsTexts w × (w.out'.text ≡ w.out.text)
+Ends w status = (text : List ℕ) × IsDue w.files.held w.words w.line status text × (w.out'.text ≡ and_bytes w.out.text text)
 
 -- how many of so many files were read at such an end
 abbrev pub read_by : ℕ → Status → ℕ
@@ -66,13 +65,11 @@ pub record IsPerformed (w : Work) (due : Status) : Type 0 where
 
 -- ---- the note
 
--- What is seen of a call: what was done, and the sink of the note with its count of faults, before and after it.
+-- What is seen of a call: what was done, and the sink of the note before and after it.
 pub record Call : Type 0 where
   pub work : Work
-  pub note : Option (List ℕ)
-  pub note' : Option (List ℕ)
-  pub notes : ℕ
-  pub notes' : ℕ
+  pub note : SinkSeen
+  pub note' : SinkSeen
 
 abbrev pub notes_run : Option Asks → Bool
 notes_run None = false
@@ -81,7 +78,3 @@ notes_run (Some asks) = is_run asks
 -- the note of a status, for what the words ask for
 abbrev pub note_for : Option Asks → Status → List ℕ
 note_for line status = note_of (names_of line) (notes_run line) status
-
--- the note of the status that is due was written, or could not be
-abbrev pub Noted : Call → Status → Status → Type 0
-Noted c due status = IsNoted c.note c.note' c.notes c.notes' (note_for c.work.line due) due status

@@ -6,7 +6,7 @@ use Rattle.std.specs.declared.option.Option.TheVariants.{Some, None}
 use Rattle.rml_base.specs.declared.limits.TheConstants.{ARGUMENTS, BYTES, LITERAL, NESTING, RULES, TEXTS, TOTAL}
 use Rattle.rml_base.specs.declared.place.Place.{Place}
 use Rattle.rml_io.specs.Counts.{Rose}
-use Rattle.rml_io.specs.Sink.{and_bytes, TookFront}
+use Rattle.rml_io.specs.Sink.{SinkSeen, and_bytes, TookFront}
 use Rattle.rml_stages.specs.declared.refusal.Kind.{Kind}
 use Rattle.rml_stages.specs.declared.refusal.Kind.TheVariants.{BadByte, OpenComment, OpenString, BadEscape, IntRange, Real, Unexpected}
 use Rattle.rml_stages.specs.declared.refusal.Which.{Which}
@@ -79,7 +79,7 @@ Wrote before after text (Ok x) = after ≡ and_bytes before text
 Wrote before after text (Err e) = TookFront before after text
 
 -- The note of the status that is due was written, or a write of it failed, and then a write fault is the status.
-abbrev pub IsNoted : Option (List ℕ) → Option (List ℕ) → ℕ → ℕ → List ℕ → Status → Status → Type 0
-IsNoted before after faults faults' text due status =
-    ((status ≡ due) × (after ≡ and_bytes before text))
-    ⊎ ((status ≡ WriteFault) × Rose faults faults' × TookFront before after text)
+abbrev pub IsNoted : SinkSeen → SinkSeen → List ℕ → Status → Status → Type 0
+IsNoted before after text due status =
+    ((status ≡ due) × (after.text ≡ and_bytes before.text text))
+    ⊎ ((status ≡ WriteFault) × Rose before.faults after.faults × TookFront before.text after.text text)

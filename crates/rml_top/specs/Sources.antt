@@ -6,18 +6,10 @@ use Rattle.std.specs.declared.option.Option.{Option}
 use Rattle.std.specs.declared.option.Option.TheVariants.{Some}
 use Rattle.rml_base.specs.declared.limits.TheConstants.{BYTES, TOTAL}
 use Rattle.rml_io.specs.Counts.{raised, Rose}
-use Rattle.rml_io.specs.Files.{Held}
+use Rattle.rml_io.specs.Files.{Held, FilesSeen}
 use Rattle.rml_stages.specs.declared.source.Source.{Source}
 use Rattle.rml_top.specs.declared.sources.NotRead.{NotRead}
 use Rattle.rml_top.specs.declared.sources.NotRead.TheVariants.{Fault, Bytes, Total, Memory}
-
--- What is seen of files from outside.
-pub record Seen : Type 0 where
-  pub held : Option Held
-  pub asked : Option (List (List ℕ))
-  pub faults : ℕ
-  pub calls : ℕ
-  pub taken : ℕ
 
 -- ---- what is held
 
@@ -79,12 +71,12 @@ abbrev pub and_names : Option (List (List ℕ)) → List (List ℕ) → Option (
 and_names told names = option_map (λ asked. asked ++ names) told
 
 -- So many of the names were read, in order, each once.
-pub record HaveRead (names : List (List ℕ)) (count : ℕ) (before after : Seen) : Type 0 where
+pub record HaveRead (names : List (List ℕ)) (count : ℕ) (before after : FilesSeen) : Type 0 where
   pub asked : after.asked ≡ and_names before.asked (take count names)
   pub calls : after.calls ≡ after_reads before.calls count
 
 -- At most the names were read, in order, each once; the last reads may have had no memory to keep the name.
-pub record HaveReadSome (names : List (List ℕ)) (before after : Seen) : Type 0 where
+pub record HaveReadSome (names : List (List ℕ)) (before after : FilesSeen) : Type 0 where
   pub count : ℕ
   pub told : ℕ
   pub within : count ≤ length names
@@ -95,13 +87,13 @@ pub record HaveReadSome (names : List (List ℕ)) (before after : Seen) : Type 0
 -- ---- how reading ends
 
 -- the sources are the texts of the names, all read
-pub record AreSources (names : List (List ℕ)) (before after : Seen) (sources : List Source) : Type 0 where
+pub record AreSources (names : List (List ℕ)) (before after : FilesSeen) (sources : List Source) : Type 0 where
   pub names_are : map (λ s. s.name) sources ≡ names
   pub texts : AreTexts before.held names (map (λ s. s.bytes) sources)
   pub have_read : HaveRead names (length names) before after
 
 -- reading stopped so
-abbrev pub Stopped : List (List ℕ) → Seen → Seen → NotRead → Type 0
+abbrev pub Stopped : List (List ℕ) → FilesSeen → FilesSeen → NotRead → Type 0
 Stopped names before after (Fault k) = IsReached before.held names k × Rose before.faults after.faults × HaveRead names (k + 1) before after
 Stopped names before after (Bytes k) = (r : IsReached before.held names k) × IsTooLong before.held r.name × RoseBy (BYTES + 1) before.taken after.taken × HaveRead names (k + 1) before after
 Stopped names before after (Total k) = (r : IsReached before.held names k) × PassTotal before.held r.texts r.name × RoseBy (TOTAL + 1) before.taken after.taken × HaveRead names (k + 1) before after

@@ -18,10 +18,10 @@ use rml_stages::{Kind, Which};
 /// Writes the note of the status that is due, and answers the status of the call: a note that can't be written is a write
 /// fault, whatever the status would have been. `run` says whether the end of a run is noted.
 pub fn write_note<N: Sink>(note: &mut N, names: &FileNames, run: bool, due: Status) -> Status
-    ensures noted { IsNoted (N.written note.old) (N.written note.new) (N.faults note.old) (N.faults note.new) (note_of (names_in names.now) run due) due result }
+    ensures noted { IsNoted (N.seen note.old) (N.seen note.new) (note_of (names_in names.now) run due) due result }
     // What is no run leaves the note alone, where all was done.
     ensures silent { run ≡ false → (k : Option ℤ) → due ≡ Done k → note.new ≡ note.old }
-    ensures later { N.faults note.old ≤ N.faults note.new }
+    ensures later { (N.seen note.old).faults ≤ (N.seen note.new).faults }
 {
     match write_text(note, names, run, due) {
         Ok(()) => due,
@@ -35,9 +35,9 @@ fn write_text<N: Sink>(
     run: bool,
     due: Status,
 ) -> Result<(), Failed>
-    ensures wrote { Wrote (N.written note.old) (N.written note.new) (note_of (names_in names.now) run due) result }
+    ensures wrote { Wrote (N.seen note.old).text (N.seen note.new).text (note_of (names_in names.now) run due) result }
     ensures silent { run ≡ false → (k : Option ℤ) → due ≡ Done k → note.new ≡ note.old }
-    ensures cause { HasCause (N.faults note.old) (N.faults note.new) result }
+    ensures cause { HasCause (N.seen note.old).faults (N.seen note.new).faults result }
 {
     match due {
         Status::Done(_) if run => write_all(note, &[b"yes\n"]),
@@ -60,8 +60,8 @@ fn write_limit<N: Sink>(
     place: Place,
     which: Which,
 ) -> Result<(), Failed>
-    ensures wrote { Wrote (N.written note.old) (N.written note.new) (located (names_in names.now) place which (limit_note which)) result }
-    ensures cause { HasCause (N.faults note.old) (N.faults note.new) result }
+    ensures wrote { Wrote (N.seen note.old).text (N.seen note.new).text (located (names_in names.now) place which (limit_note which)) result }
+    ensures cause { HasCause (N.seen note.old).faults (N.seen note.new).faults result }
 {
     let text = limit_note(which);
     match which {
@@ -73,8 +73,8 @@ fn write_limit<N: Sink>(
 
 /// `FILE: ` and the text.
 fn write_named<N: Sink>(note: &mut N, file: &str, text: &[u8]) -> Result<(), Failed>
-    ensures wrote { Wrote (N.written note.old) (N.written note.new) (with_file file.now text.now) result }
-    ensures cause { HasCause (N.faults note.old) (N.faults note.new) result }
+    ensures wrote { Wrote (N.seen note.old).text (N.seen note.new).text (with_file file.now text.now) result }
+    ensures cause { HasCause (N.seen note.old).faults (N.seen note.new).faults result }
 {
     write_all(note, &[file.as_bytes(), b": ", text])
 }
@@ -86,8 +86,8 @@ fn write_placed<N: Sink>(
     place: Place,
     text: &[u8],
 ) -> Result<(), Failed>
-    ensures wrote { Wrote (N.written note.old) (N.written note.new) (with_place (name_at (names_in names.now) place.text) place text.now) result }
-    ensures cause { HasCause (N.faults note.old) (N.faults note.new) result }
+    ensures wrote { Wrote (N.seen note.old).text (N.seen note.new).text (with_place (name_at (names_in names.now) place.text) place text.now) result }
+    ensures cause { HasCause (N.seen note.old).faults (N.seen note.new).faults result }
 {
     let mut line = Buffer::new();
     let mut column = Buffer::new();
@@ -107,8 +107,8 @@ fn write_placed<N: Sink>(
 
 /// Writes the pieces one after the other.
 fn write_all<N: Sink>(note: &mut N, pieces: &[&[u8]]) -> Result<(), Failed>
-    ensures wrote { Wrote (N.written note.old) (N.written note.new) (flat_map (λ piece. piece.now) pieces.now) result }
-    ensures cause { HasCause (N.faults note.old) (N.faults note.new) result }
+    ensures wrote { Wrote (N.seen note.old).text (N.seen note.new).text (flat_map (λ piece. piece.now) pieces.now) result }
+    ensures cause { HasCause (N.seen note.old).faults (N.seen note.new).faults result }
 {
     for piece in pieces {
         write_whole(note, piece)?;

@@ -31,16 +31,14 @@ pub fn perform<F: Files, O: Sink>(
     ensures performed { IsPerformed (record {
       words = words_of words.now;
       line = Some (asked command.now);
-      files = record { held = F.held files.old; asked = F.asked files.old; faults = F.faults files.old; calls = F.calls files.old; taken = F.taken files.old };
-      files' = record { held = F.held files.new; asked = F.asked files.new; faults = F.faults files.new; calls = F.calls files.new; taken = F.taken files.new };
-      out = O.written out.old;
-      out' = O.written out.new;
-      writes = O.faults out.old;
-      writes' = O.faults out.new;
+      files = F.seen files.old;
+      files' = F.seen files.new;
+      out = O.seen out.old;
+      out' = O.seen out.new;
     }) result }
     ensures unread { ¬ Reads (asked command.now) → files.new ≡ files.old }
-    ensures held { F.held files.new ≡ F.held files.old }
-    ensures later { (F.faults files.old ≤ F.faults files.new) × (O.faults out.old ≤ O.faults out.new) }
+    ensures held { (F.seen files.new).held ≡ (F.seen files.old).held }
+    ensures later { ((F.seen files.old).faults ≤ (F.seen files.new).faults) × ((O.seen out.old).faults ≤ (O.seen out.new).faults) }
 {
     match by_words(command) {
         Some(due) => due,
@@ -62,8 +60,8 @@ fn answer<O: Sink>(
     requires count { length sources.now ≤ TEXTS }
     requires size { All (λ s. length s.bytes ≤ BYTES) sources.now }
     requires each { length sources.now ≡ length (text_names (asked command.now)) }
-    ensures performed { Performed (words_of words.now) (asked command.now) (contents sources.now) (O.written out.old) (O.written out.new) (O.faults out.old) (O.faults out.new) result }
-    ensures later { O.faults out.old ≤ O.faults out.new }
+    ensures performed { Performed (words_of words.now) (asked command.now) (contents sources.now) (O.seen out.old) (O.seen out.new) result }
+    ensures later { (O.seen out.old).faults ≤ (O.seen out.new).faults }
 {
     match output(alloc, words, command, sources) {
         Ok(Some(text)) => match write_whole(out, text.as_slice()) {

@@ -3,7 +3,7 @@
 ghost use Rattle.std.specs.Prelude.{◌≡◌, ◌≤◌, length, IfOk, IfErr};
 ghost use Rattle.rml_base.specs.declared.limits.TheConstants.{TEXTS, TOTAL};
 ghost use Rattle.rml_top.specs.Names.{names_in};
-ghost use Rattle.rml_top.specs.Reading.{Next, NextStopped};
+ghost use Rattle.rml_top.specs.Reading.{Next, NextStopped, why_not_read};
 ghost use Rattle.rml_top.specs.Sources.{AreSources, Stopped};
 ghost use Rattle.rml_top.specs.declared.sources.NotRead.TheVariants.{Memory};
 
@@ -51,13 +51,13 @@ fn read_source<F: Files>(
 ) -> Result<Source, NotRead>
     requires { before ≤ TOTAL }
     ensures next { IfOk result (λ source. Next name.now before
-        (record { held = F.held files.old; asked = F.asked files.old; faults = F.faults files.old; calls = F.calls files.old; taken = F.taken files.old })
-        (record { held = F.held files.new; asked = F.asked files.new; faults = F.faults files.new; calls = F.calls files.new; taken = F.taken files.new }) source) }
+        (F.seen files.old)
+        (F.seen files.new) source) }
     ensures stopped { IfErr result (NextStopped name.now number before
-        (record { held = F.held files.old; asked = F.asked files.old; faults = F.faults files.old; calls = F.calls files.old; taken = F.taken files.old })
-        (record { held = F.held files.new; asked = F.asked files.new; faults = F.faults files.new; calls = F.calls files.new; taken = F.taken files.new })) }
-    ensures held { F.held files.new ≡ F.held files.old }
-    ensures later { F.faults files.old ≤ F.faults files.new }
+        (F.seen files.old)
+        (F.seen files.new)) }
+    ensures held { (F.seen files.new).held ≡ (F.seen files.old).held }
+    ensures later { (F.seen files.old).faults ≤ (F.seen files.new).faults }
 {
     match files.read(alloc, name, limits::BYTES) {
         Ok(bytes) => {
@@ -70,9 +70,18 @@ fn read_source<F: Files>(
                 bytes: Bytes::of(bytes),
             })
         }
-        Err(FileErr::Failed) => Err(NotRead::Fault(number)),
-        Err(FileErr::TooLong) => Err(NotRead::Bytes(number)),
-        Err(FileErr::Memory) => Err(NotRead::Memory),
+        Err(why) => Err(not_read(number, why)),
+    }
+}
+
+/// Why the text of a file is not read, by why its file gave no bytes.
+fn not_read(number: u32, why: FileErr) -> NotRead
+    ensures { result ≡ why_not_read number why }
+{
+    match why {
+        FileErr::Failed => NotRead::Fault(number),
+        FileErr::TooLong => NotRead::Bytes(number),
+        FileErr::Memory => NotRead::Memory,
     }
 }
 
@@ -87,13 +96,13 @@ pub fn read_sources<F: Files>(
 ) -> Result<Vec<Source>, NotRead>
     requires { length (names_in names.now) ≤ TEXTS }
     ensures read { IfOk result (λ sources. AreSources (names_in names.now)
-        (record { held = F.held files.old; asked = F.asked files.old; faults = F.faults files.old; calls = F.calls files.old; taken = F.taken files.old })
-        (record { held = F.held files.new; asked = F.asked files.new; faults = F.faults files.new; calls = F.calls files.new; taken = F.taken files.new }) sources.items) }
+        (F.seen files.old)
+        (F.seen files.new) sources.items) }
     ensures stopped { IfErr result (Stopped (names_in names.now)
-        (record { held = F.held files.old; asked = F.asked files.old; faults = F.faults files.old; calls = F.calls files.old; taken = F.taken files.old })
-        (record { held = F.held files.new; asked = F.asked files.new; faults = F.faults files.new; calls = F.calls files.new; taken = F.taken files.new })) }
-    ensures held { F.held files.new ≡ F.held files.old }
-    ensures later { F.faults files.old ≤ F.faults files.new }
+        (F.seen files.old)
+        (F.seen files.new)) }
+    ensures held { (F.seen files.new).held ≡ (F.seen files.old).held }
+    ensures later { (F.seen files.old).faults ≤ (F.seen files.new).faults }
 {
     let mut sources = Vec::new(alloc);
     let mut bytes = 0;

@@ -34,25 +34,21 @@ pub fn rmlc<F: Files, O: Sink, N: Sink>(
       work = record {
         words = words_of words.now;
         line = line;
-        files = record { held = F.held files.old; asked = F.asked files.old; faults = F.faults files.old; calls = F.calls files.old; taken = F.taken files.old };
-        files' = record { held = F.held files.new; asked = F.asked files.new; faults = F.faults files.new; calls = F.calls files.new; taken = F.taken files.new };
-        out = O.written out.old;
-        out' = O.written out.new;
-        writes = O.faults out.old;
-        writes' = O.faults out.new;
+        files = F.seen files.old;
+        files' = F.seen files.new;
+        out = O.seen out.old;
+        out' = O.seen out.new;
       };
-      note = N.written note.old;
-      note' = N.written note.new;
-      notes = N.faults note.old;
-      notes' = N.faults note.new;
+      note = N.seen note.old;
+      note' = N.seen note.new;
     }) result }
     // Files of which no text is read are left alone.
     ensures unread { ((asks : Asks) → IsLine (words_of words.now) asks → ¬ Reads asks) → files.new ≡ files.old }
     // What is no run leaves the note alone, where all was done.
     ensures silent { (asks : Asks) → IsLine (words_of words.now) asks → is_run asks ≡ false → (k : Option ℤ) → result ≡ Done k → note.new ≡ note.old }
     // What is held stays, and counts never fall.
-    ensures held { F.held files.new ≡ F.held files.old }
-    ensures later { (F.faults files.old ≤ F.faults files.new) × (O.faults out.old ≤ O.faults out.new) × (N.faults note.old ≤ N.faults note.new) }
+    ensures held { (F.seen files.new).held ≡ (F.seen files.old).held }
+    ensures later { ((F.seen files.old).faults ≤ (F.seen files.new).faults) × ((O.seen out.old).faults ≤ (O.seen out.new).faults) × ((N.seen note.old).faults ≤ (N.seen note.new).faults) }
 {
     match read_words(words) {
         None => write_note(note, &FileNames::Each(&[]), false, Status::Usage),

@@ -3,13 +3,12 @@
 
 mod command;
 mod files;
-mod laws;
+pub mod laws;
 mod number;
 mod options;
 mod read;
 
 pub use command::{Command, Stage};
-pub use laws::one_line;
 pub use read::read_words;
 
 #[cfg(test)]

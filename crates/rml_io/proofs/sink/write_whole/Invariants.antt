@@ -4,8 +4,8 @@ use Rattle.rml_io.proofs.sink.write_whole.Given as goal
 
 abbrev pub invariant-loop-rest : goal.invariant-loop-rest
 invariant-loop-rest g l = record {
-  wrote : WroteTo (g.S.Sink.written l.fn.sink) (g.S.Sink.written l.sink) l.piece l.rest;
-  later : g.S.Sink.faults l.fn.sink ≤ g.S.Sink.faults l.sink;
+  wrote : WroteTo (g.S.Sink.seen l.fn.sink).text (g.S.Sink.seen l.sink).text l.piece l.rest;
+  later : (g.S.Sink.seen l.fn.sink).faults ≤ (g.S.Sink.seen l.sink).faults;
 }
 
 abbrev pub decreases-loop-rest : goal.decreases-loop-rest

@@ -17,9 +17,9 @@ returns-in-Some-clause-answered g c =
     (Some (asked c.in-Some.command), c.in-Some.ensures.found, answers _ c.perform-due.result c.write_note-in-Some.result c.perform-due.ensures.performed noted)
 
 pub returns-in-None-clause-silent : goal.returns-in-None-clause-silent
-returns-in-None-clause-silent g c = λ asks line quiet k at. absurd (usage-not-done _ _ _ _ _ _ k c.write_note.ensures.noted at)
+returns-in-None-clause-silent g c = λ asks line quiet k at. absurd (usage-not-done _ _ _ _ k c.write_note.ensures.noted at)
 
 pub returns-in-Some-clause-silent : goal.returns-in-Some-clause-silent
 returns-in-Some-clause-silent g c = λ asks line quiet k at.
     let run : c.is_run.result ≡ false = c.is_run.ensures ∙ ap is_run (one _ (asked c.in-Some.command) asks c.in-Some.ensures.found line) ∙ quiet in
-    c.write_note-in-Some.ensures.silent run k (done-due _ _ _ _ _ _ _ k c.write_note-in-Some.ensures.noted at)
+    c.write_note-in-Some.ensures.silent run k (done-due _ _ _ _ _ k c.write_note-in-Some.ensures.noted at)

@@ -1,4 +1,4 @@
-use Rattle.std.proofs.Common.{◌<◌, arith, length}
+use Rattle.std.proofs.Common.{arith}
 use Rattle.rml_words.proofs.Numbers.{few-digits, numeral-few}
 use Rattle.rml_words.proofs.number.value_of.Goals as goal
 
