@@ -8,6 +8,7 @@ use Rattle.rml_syntax.specs.declared.token.Mark.TheVariants as mark
 use Rattle.rml_syntax.specs.declared.rules.Long.{Long}
 use Rattle.rml_syntax.specs.declared.rules.Pattern.{Pattern}
 use Rattle.rml_syntax.specs.declared.rules.Pattern.TheVariants as pat
+use Rattle.rml_grammar.proofs.Lacks.{binder-none}
 use Rattle.rml_grammar.specs.declared.front.Front.{Front}
 use Rattle.rml_grammar.specs.declared.front.Front.TheVariants as front
 use Rattle.rml_grammar.specs.declared.fault.Fault.{Fault}
@@ -105,7 +106,7 @@ module _ (inner : Inner) where
 mutual
   pub pat-complete : {us rest : List Spot} {t : Pattern} → IsPat us t rest → (n : ℕ) → Agrees (pat_at n us) (t, rest)
   pat-complete (s.bound {us} {rest} {n = m} {p} {q} {t} a) n = rw (pat_level n (named m p ∷ word key.KAs q ∷ us)) (and-agrees (pcons_at n us) _ (t, rest) (pat.Bind m p t, rest) (pcons-complete a n) refl)
-  pat-complete (s.unbound {us} {rest} {t} e a) n = rw (pat_level n us, unbound-is (inner_pat n) us e) (pcons-complete a n)
+  pat-complete (s.unbound {us} {rest} {t} e a) n = rw (pat_level n us, unbound-is (inner_pat n) us (binder-none us e)) (pcons-complete a n)
 
   pub pcons-complete : {us rest : List Spot} {t : Pattern} → IsPcons us t rest → (n : ℕ) → Agrees (pcons_at n us) (t, rest)
   pcons-complete (s.chain {us} {vs} {rest} {t} {ts} a b) n =

@@ -22,6 +22,7 @@ use Rattle.rml_syntax.specs.declared.texts.Uses.{Uses}
 use Rattle.rml_syntax.specs.declared.texts.Decl.{Decl}
 use Rattle.rml_syntax.specs.declared.texts.Decl.TheVariants as decl
 use Rattle.rml_syntax.specs.declared.texts.Text.{Text}
+use Rattle.rml_grammar.proofs.Lacks.{clause-none, decl-none, spec-none, uses-none}
 use Rattle.rml_grammar.specs.declared.front.Front.{Front}
 use Rattle.rml_grammar.specs.declared.front.Front.TheVariants as front
 use Rattle.rml_grammar.specs.declared.front.Opening.{Opening}
@@ -142,7 +143,7 @@ next-clause (s.rule_head a) = refl
 next-clause (s.rule_goals a b) = refl
 
 pub clauses-complete : {us rest : List Spot} {rs : List Rule} → IsMoreClauses us rs rest → (i k : ℕ) → Agrees (g.clauses_at i k us) (rs, rest)
-clauses-complete (s.no_more_clauses {us} e) i k = agrees-is _ ([], us) (clauses_none i k us e)
+clauses-complete (s.no_more_clauses {us} e) i k = agrees-is _ ([], us) (clauses_none i k us (clause-none us e))
 clauses-complete (s.more_clauses {us} a b) i zero = rw (clauses_full i us us (next-clause a)) tt
 clauses-complete (s.more_clauses {us} {vs} {rest} {r} {rs} a b) i (suc k) = rw (clauses_one i k us us (next-clause a))
     (and-agrees (g.clause_at i us) _ (r, vs) (r ∷ rs, rest) (clause-complete a i) (and-agrees (g.clauses_at i k vs) _ (rs, rest) (r ∷ rs, rest) (clauses-complete b i k) refl))
@@ -182,17 +183,17 @@ next-decl (s.d_val a b) = refl
 next-decl (s.d_relation a b c) = refl
 
 specs-turns : {us rest : List Spot} {ds : List Decl} → IsSpecs us ds rest → (i k : ℕ) → length us ≤ k → Agrees (follows g.spec_next (g.spec_at i) k us) (ds, rest)
-specs-turns (s.no_spec {us} e) i k le = tail-none g.spec_next (g.spec_at i) k us e
+specs-turns (s.no_spec {us} e) i k le = tail-none g.spec_next (g.spec_at i) k us (spec-none us e)
 specs-turns (s.more_specs {us} {vs} {rest} {d} {ds} a b) i k le = tail-more g.spec_next (g.spec_at i) k us us vs rest d ds (next-spec a) le (let h = shorter-spec a in omega arith) (spec-complete a i)
     (λ j e. specs-turns b i j (let h = shorter-spec a in omega arith))
 
 decls-turns : {us rest : List Spot} {ds : List Decl} → IsDecls us ds rest → (i m k : ℕ) → length us ≤ k → Agrees (follows g.decl_next (g.decl_at i m) k us) (ds, rest)
-decls-turns (s.no_decl {us} e) i m k le = tail-none g.decl_next (g.decl_at i m) k us e
+decls-turns (s.no_decl {us} e) i m k le = tail-none g.decl_next (g.decl_at i m) k us (decl-none us e)
 decls-turns (s.more_decls {us} {vs} {rest} {d} {ds} a b) i m k le = tail-more g.decl_next (g.decl_at i m) k us us vs rest d ds (next-decl a) le (let h = shorter-decl a in omega arith) (decl-complete a i m)
     (λ j e. decls-turns b i m j (let h = shorter-decl a in omega arith))
 
 uses-turns : {us rest : List Spot} {fs : List Uses} → IsUses us fs rest → (k : ℕ) → length us ≤ k → Agrees (follows g.uses_next g.uses_at k us) (fs, rest)
-uses-turns (s.no_uses {us} e) k le = tail-none g.uses_next g.uses_at k us e
+uses-turns (s.no_uses {us} e) k le = tail-none g.uses_next g.uses_at k us (uses-none us e)
 uses-turns (s.more_uses {us} {rest} {f} {p} {q} {fs} a) k le = tail-more g.uses_next g.uses_at k (word key.KWith p ∷ literal (lit.Text f) q ∷ us) (word key.KWith p ∷ literal (lit.Text f) q ∷ us) us rest (record { file = f; place = p }) fs refl le (omega arith) refl
     (λ j e. uses-turns a j (omega arith))
 

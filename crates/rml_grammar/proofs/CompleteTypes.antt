@@ -8,6 +8,7 @@ use Rattle.rml_syntax.specs.declared.rules.Long.{Long}
 use Rattle.rml_syntax.specs.declared.types.TypeExp.{TypeExp}
 use Rattle.rml_syntax.specs.declared.types.TypeExp.TheVariants as type
 use Rattle.rml_syntax.specs.declared.types.Sig.{Sig}
+use Rattle.rml_grammar.proofs.Lacks.{name-none}
 use Rattle.rml_grammar.specs.declared.front.Front.{Front}
 use Rattle.rml_grammar.specs.declared.front.Front.TheVariants as front
 use Rattle.rml_grammar.specs.declared.types.Bracket.{Bracket}
@@ -16,6 +17,7 @@ use Rattle.rml_grammar.specs.declared.types.Types.{Types}
 use Rattle.rml_grammar.specs.declared.types.Types.TheVariants as types
 use Rattle.rml_grammar.specs.declared.fault.Fault.{Fault}
 use Rattle.rml_grammar.specs.Tokens.{tyvar, sign, after, front_of, rest_of}
+use Rattle.rml_grammar.specs.Lacks.{LacksName}
 use Rattle.rml_grammar.specs.Reading.{◌>>=◌, Parser, follows, repeated, separated, before, inside, unexpected, long_at}
 use Rattle.rml_grammar.specs.Trees.{named_type, product_type}
 use Rattle.rml_grammar.specs.Types.{Inner, name_by, name_next, longs_at, bracket_type, tatom_by, tatom, product, one_from, tseq_from, tseq_inside, tseq_by, tseq, types_of, outputs, signature, bracket_from, bracket_by, in_bracket, bracket_at, inner_bracket, tatom_at, type_at, tseq_at, sig_at}
@@ -35,7 +37,7 @@ opens-long : {us rest : List Spot} {l : Long} → IsLong us l rest → name_next
 opens-long a = rw (long-front a) refl
 
 longs-turns : {us rest : List Spot} {ls : List Long} → IsLongs us ls rest → (k : ℕ) → length us ≤ k → Agrees (follows name_next long_at k us) (ls, rest)
-longs-turns (s.no_long {us} e) k le = tail-none name_next long_at k us e
+longs-turns (s.no_long {us} e) k le = tail-none name_next long_at k us (name-none us e)
 longs-turns (s.more_longs {us} {vs} {rest} {l} {ls} a b) k le = tail-more name_next long_at k us us vs rest l ls (opens-long a) le (let h = shorter-long a in omega arith) (agrees-is _ (l, vs) (long-complete a))
     (λ j e. longs-turns b j (let h = shorter-long a in omega arith))
 
@@ -81,7 +83,7 @@ module _ (inner : Inner) where
       → Agrees (tseq_inside inner p vs) y
   seq-behind p never vs t ws y h g = rw (inside-none p vs (not-closed p vs (λ b. longs_at b.1 >>= λ ls. bracket_type ls.1 b.0 ls.0) (t, ws) never (has mark.CloseRound vs) h)) (by-bracket (p vs) t ws y h g)
 
-  bare-behind : (p : Parser Bracket) → Refuses p → (us rest : List Spot) (t u : TypeExp) (ts : List TypeExp) → Agrees (p us) (bracket.Types (t ∷ u ∷ ts), rest) → name_next rest ≡ None → Agrees (tseq_inside inner p us) (types.Bare (t ∷ u ∷ ts), rest)
+  bare-behind : (p : Parser Bracket) → Refuses p → (us rest : List Spot) (t u : TypeExp) (ts : List TypeExp) → Agrees (p us) (bracket.Types (t ∷ u ∷ ts), rest) → LacksName rest → Agrees (tseq_inside inner p us) (types.Bare (t ∷ u ∷ ts), rest)
   bare-behind p never us rest t u ts a e = rw (inside-none p us (not-closed p us (λ b. Ok b) (bracket.Types (t ∷ u ∷ ts), rest) never (has mark.CloseRound us) (and-agrees (p us) (λ b. Ok b) (bracket.Types (t ∷ u ∷ ts), rest) (bracket.Types (t ∷ u ∷ ts), rest) a refl)))
       (and-agrees (p us) _ (bracket.Types (t ∷ u ∷ ts), rest) (types.Bare (t ∷ u ∷ ts), rest) a (and-agrees (longs_at rest) _ ([], rest) (types.Bare (t ∷ u ∷ ts), rest) (longs-complete (s.no_long e)) refl))
 

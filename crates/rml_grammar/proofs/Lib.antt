@@ -39,3 +39,4 @@ pub mod LimitsLargerPatterns
 pub mod LimitsLargerTypes
 pub mod LimitsLargerGoals
 pub mod LimitsLargerTexts
+pub mod Lacks

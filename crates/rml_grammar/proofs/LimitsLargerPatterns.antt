@@ -3,6 +3,7 @@ use Rattle.std.proofs.Common.{◌≡◌, ℕ, zero, suc, ◌<◌, List, [], ◌�
 use Rattle.rml_syntax.specs.declared.token.Spot.{Spot}
 use Rattle.rml_syntax.specs.declared.token.Mark.TheVariants as mark
 use Rattle.rml_syntax.specs.declared.rules.Pattern.{Pattern}
+use Rattle.rml_grammar.proofs.Lacks.{binder-none}
 use Rattle.rml_grammar.specs.declared.front.Front.{Front}
 use Rattle.rml_grammar.specs.declared.front.Front.TheVariants as front
 use Rattle.rml_grammar.specs.Tokens.{sign, after, front_of}
@@ -47,7 +48,7 @@ module _ (i j : Inner) (h : Higher i j) where
 
   bound-by : (us : List Spot) → Binds us → Steps (length us) (bound_pat i us) (bound_pat j us)
   bound-by us (v.an_as {us = vs}) = skip (skip (and-steps (pcons-climbs vs) (λ x. end-steps)))
-  bound-by us (v.no_as e) = rw (e, bound_pat) (pcons-climbs us)
+  bound-by us (v.no_as e) = rw (binder-none us e, bound_pat) (pcons-climbs us)
 
   bound-climbs : Climbs (bound_pat i) (bound_pat j)
   bound-climbs us = bound-by us (binds us)

@@ -3,6 +3,7 @@ use Rattle.std.proofs.Common.{◌≡◌, ℕ, zero, suc, ◌+◌, List, refl, ar
 use Rattle.rml_syntax.specs.declared.token.Spot.{Spot}
 use Rattle.rml_syntax.specs.declared.token.Mark.TheVariants as mark
 use Rattle.rml_syntax.specs.declared.rules.Pattern.{Pattern}
+use Rattle.rml_grammar.proofs.Lacks.{binder-none}
 use Rattle.rml_grammar.specs.declared.front.Front.{Front}
 use Rattle.rml_grammar.specs.declared.front.Front.TheVariants as front
 use Rattle.rml_grammar.specs.Tokens.{front_of}
@@ -45,7 +46,7 @@ module _ {w : Whole} {d r : ℕ} (inner : Inner) (k : KeepsInner w d r inner) wh
 
   bound-by : (us : List Spot) → Binds us → At w d r us → Ends w (λ x. At w d r x.1) (bound_pat inner us)
   bound-by us (v.an_as {us = vs}) a = and-ends (pcons-keeps vs (over tt (over tt a))) (λ x b. went b)
-  bound-by us (v.no_as e) a = rw (e, bound_pat) (pcons-keeps us a)
+  bound-by us (v.no_as e) a = rw (binder-none us e, bound_pat) (pcons-keeps us a)
 
   bound-keeps : Keeps w d r (bound_pat inner)
   bound-keeps us a = bound-by us (binds us) a

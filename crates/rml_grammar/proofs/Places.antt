@@ -48,7 +48,7 @@ by-text end n k c tail other x t (Err f) e (inl q) d = no-tree end n k (c ++ x �
 by-text end n k c tail other x t (Err f) e (inr l) d = let h : f.left ≡ suc (length tail) = ap (λ (g : Fault). g.left) (fault-of {X = Text} f (record { kind = kind.Unexpected; left = suc (length tail) }) e) in absurd (omega arith)
 
 -- the tokens of a text are those of one that ends elsewhere
-ended : {at : Place} {us : List Spot} {t : Text} (end : Place) → Derives at us t → (u : Text) × Derives end us u
+pub ended : {at : Place} {us : List Spot} {t : Text} (end : Place) → Derives at us t → (u : Text) × Derives end us u
 ended end (a_text uses specs body decls) = (_, a_text uses specs body decls)
 
 pub placed : Placed

@@ -88,10 +88,10 @@ tuple-closed (s.two_pats {r} a b c) = ((r, s.some_pats a (s.more_pats b c)), ome
 pseq-from : (p q : Place) (us ws rest : List Spot) (xs ys : List Pattern) → IsPats us xs (sign mark.CloseRound q ∷ ws) → ((y : List Pattern × List Spot) → Closed mark.CloseRound us y.0 y.1 → (xs, ws) ≡ y) → IsPapps ws ys rest
     → IsPseq (sign mark.OpenRound p ∷ us) (results_pat xs ys) rest
 pseq-from p q us ws rest _ ys (s.some_pats {t} a (s.no_more_pats e)) alone d =
-    s.one_pat (s.unbound refl (s.chain (s.atom (s.bracket a)) d)) (λ ts tup. (let k = tuple-closed tup in let same = alone (ts, rest) k.0 in let l = ap (λ (z : List Pattern × List Spot). length z.0) same in absurd (omega (arith, k.1))))
+    s.one_pat (s.unbound tt (s.chain (s.atom (s.bracket a)) d)) (λ ts tup. (let k = tuple-closed tup in let same = alone (ts, rest) k.0 in let l = ap (λ (z : List Pattern × List Spot). length z.0) same in absurd (omega (arith, k.1))))
 pseq-from p q us ws rest _ _ (s.some_pats a (s.more_pats b c)) alone (s.no_papp e) = s.pats (s.two_pats a b c) e
 pseq-from p q us ws rest _ _ (s.some_pats a (s.more_pats b c)) alone (s.more_papps f g) =
-    s.one_pat (s.unbound refl (s.chain (s.atom (s.tuple (s.two_pats a b c))) (s.more_papps f g)))
+    s.one_pat (s.unbound tt (s.chain (s.atom (s.tuple (s.two_pats a b c))) (s.more_papps f g)))
     (λ ts tup. (let k = tuple-closed tup in let same = alone (ts, rest) k.0 in let l = ap (λ (z : List Pattern × List Spot). length z.1) same in let x = short-papp f in let y = short-papps g in absurd (omega arith)))
 
 closed-complete : (n : ℕ) (us : List Spot) (y : List Pattern × List Spot) → Closed mark.CloseRound us y.0 y.1 → Agrees (enclosed mark.CloseRound (pat_at n) us) y

@@ -7,6 +7,7 @@ use Rattle.rml_syntax.specs.declared.token.Mark.TheVariants as mark
 use Rattle.rml_syntax.specs.declared.rules.Long.{Long}
 use Rattle.rml_syntax.specs.declared.rules.Pattern.{Pattern}
 use Rattle.rml_syntax.specs.declared.rules.Pattern.TheVariants as pat
+use Rattle.rml_grammar.proofs.Lacks.{binder-none}
 use Rattle.rml_grammar.specs.declared.front.Front.TheVariants as front
 use Rattle.rml_grammar.specs.declared.fault.Fault.{Fault}
 use Rattle.rml_grammar.specs.Tokens.{sign, after, front_of, rest_of}
@@ -139,7 +140,7 @@ module _ (inner : Inner) (sound : InnerSound inner) where
 
   bound-by : (us : List Spot) → v.Binds us → Reads IsPat us (bound_pat inner us)
   bound-by us (v.an_as {us = vs}) = and-holds (λ x. IsPcons vs x.0 x.1) (λ z. IsPat us z.0 z.1) (pcons inner vs) _ (pcons-sound vs) (λ x h. s.bound h)
-  bound-by us (v.no_as e) = rw (unbound-is us e) (holds-map (λ x. IsPcons us x.0 x.1) (λ x. IsPat us x.0 x.1) (pcons inner us) (pcons-sound us) (λ x h. s.unbound e h))
+  bound-by us (v.no_as e) = rw (unbound-is us (binder-none us e)) (holds-map (λ x. IsPcons us x.0 x.1) (λ x. IsPat us x.0 x.1) (pcons inner us) (pcons-sound us) (λ x h. s.unbound e h))
 
   pub bound-sound : (us : List Spot) → Reads IsPat us (bound_pat inner us)
   bound-sound us = bound-by us (v.binds us)

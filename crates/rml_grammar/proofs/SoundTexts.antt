@@ -22,6 +22,7 @@ use Rattle.rml_syntax.specs.declared.texts.Uses.{Uses}
 use Rattle.rml_syntax.specs.declared.texts.Decl.{Decl}
 use Rattle.rml_syntax.specs.declared.texts.Decl.TheVariants as decl
 use Rattle.rml_syntax.specs.declared.texts.Text.{Text}
+use Rattle.rml_grammar.proofs.Lacks.{clause-lacks, decl-lacks, spec-lacks, uses-lacks}
 use Rattle.rml_grammar.specs.declared.front.Front.{Front}
 use Rattle.rml_grammar.specs.declared.front.Front.TheVariants as front
 use Rattle.rml_grammar.specs.declared.front.Opening.{Opening}
@@ -278,13 +279,13 @@ same-clause us vs e = same-clause-by us vs (opening_of us) e
 
 clauses-by : (i k : ℕ) (us : List Spot) (o : Option (List Spot)) → g.clause_next us ≡ o → ((vs : List Spot) → Reads IsMoreClauses vs (g.clauses_at i k vs)) → Reads IsMoreClauses us (g.clauses_at i (suc k) us)
 unfolding g.clauses_at
-clauses-by i k us None e again = rw (e, g.clauses_at) (s.no_more_clauses e)
+clauses-by i k us None e again = rw (e, g.clauses_at) (s.no_more_clauses (clause-lacks us e))
 clauses-by i k us (Some vs) e again = rw (e, g.clauses_at, same-clause us vs e) (and-holds (λ x. IsClause vs x.0 x.1) (λ y. IsMoreClauses vs y.0 y.1) (g.clause_at i vs) _ (clause-sound i vs (opens vs))
     (λ x a. and-holds (λ y. IsMoreClauses x.1 y.0 y.1) (λ z. IsMoreClauses vs z.0 z.1) (g.clauses_at i k x.1) _ (again x.1) (λ y b. s.more_clauses a b)))
 
 clauses-none : (i : ℕ) (us : List Spot) (o : Option (List Spot)) → g.clause_next us ≡ o → Reads IsMoreClauses us (g.clauses_at i zero us)
 unfolding g.clauses_at
-clauses-none i us None e = rw (e, g.clauses_at) (s.no_more_clauses e)
+clauses-none i us None e = rw (e, g.clauses_at) (s.no_more_clauses (clause-lacks us e))
 clauses-none i us (Some vs) e = rw (e, g.clauses_at) tt
 
 pub clauses-sound : (i k : ℕ) (us : List Spot) → Reads IsMoreClauses us (g.clauses_at i k us)
@@ -355,12 +356,12 @@ same-uses-by us vs (opening.With p) e = cc
 same-uses-by us vs f e = absurd (cc e)
 
 pub specs-sound : (i : ℕ) (us : List Spot) → Reads IsSpecs us (repeated g.spec_next (g.spec_at i) us)
-specs-sound i = repeated-sound g.spec_next (g.spec_at i) IsSpecs refl (λ us e. s.no_spec e)
+specs-sound i = repeated-sound g.spec_next (g.spec_at i) IsSpecs refl (λ us e. s.no_spec (spec-lacks us e))
     (λ us vs e. rw (same-spec-by us vs (opening_of us) e) (holds-map (λ x. IsSpec vs x.0 x.1) (λ x. (length x.1 < length vs) × ((ds : List Decl) (rest : List Spot) → IsSpecs x.1 ds rest → IsSpecs vs (x.0 ∷ ds) rest)) (g.spec_at i vs) (spec-sound i vs (opens vs))
     (λ x a. (shorter-spec a, λ ds rest b. s.more_specs a b))))
 
 pub decls-sound : (i k : ℕ) (us : List Spot) → Reads IsDecls us (repeated g.decl_next (g.decl_at i k) us)
-decls-sound i k = repeated-sound g.decl_next (g.decl_at i k) IsDecls refl (λ us e. s.no_decl e)
+decls-sound i k = repeated-sound g.decl_next (g.decl_at i k) IsDecls refl (λ us e. s.no_decl (decl-lacks us e))
     (λ us vs e. rw (same-decl-by us vs (opening_of us) e) (holds-map (λ x. IsDecl vs x.0 x.1) (λ x. (length x.1 < length vs) × ((ds : List Decl) (rest : List Spot) → IsDecls x.1 ds rest → IsDecls vs (x.0 ∷ ds) rest)) (g.decl_at i k vs) (decl-sound i k vs (opens vs))
     (λ x a. (shorter-decl a, λ ds rest b. s.more_decls a b))))
 
@@ -397,7 +398,7 @@ pub use-turn : (vs rest : List Spot) (f : Uses) → IsUse vs f rest → (length 
 use-turn vs rest _ a_use = (omega arith, λ fs ws b. s.more_uses b)
 
 pub uses-sound : (us : List Spot) → Reads IsUses us (repeated g.uses_next g.uses_at us)
-uses-sound = repeated-sound g.uses_next g.uses_at IsUses refl (λ us e. s.no_uses e)
+uses-sound = repeated-sound g.uses_next g.uses_at IsUses refl (λ us e. s.no_uses (uses-lacks us e))
     (λ us vs e. rw (same-uses-by us vs (opening_of us) e) (holds-map (λ x. IsUse vs x.0 x.1) (λ x. (length x.1 < length vs) × ((fs : List Uses) (rest : List Spot) → IsUses x.1 fs rest → IsUses vs (x.0 ∷ fs) rest)) (g.uses_at vs) (use-sound vs (opens vs))
     (λ x a. use-turn vs x.1 x.0 a)))
 

@@ -8,6 +8,7 @@ use Rattle.rml_syntax.specs.declared.rules.Long.{Long}
 use Rattle.rml_syntax.specs.declared.types.TypeExp.{TypeExp}
 use Rattle.rml_syntax.specs.declared.types.TypeExp.TheVariants as type
 use Rattle.rml_syntax.specs.declared.types.Sig.{Sig}
+use Rattle.rml_grammar.proofs.Lacks.{name-lacks}
 use Rattle.rml_grammar.specs.declared.front.Front.{Front}
 use Rattle.rml_grammar.specs.declared.front.Front.TheVariants as front
 use Rattle.rml_grammar.specs.declared.types.Bracket.{Bracket}
@@ -16,6 +17,7 @@ use Rattle.rml_grammar.specs.declared.types.Types.{Types}
 use Rattle.rml_grammar.specs.declared.types.Types.TheVariants as types
 use Rattle.rml_grammar.specs.declared.fault.Fault.{Fault}
 use Rattle.rml_grammar.specs.Tokens.{tyvar, sign, after, front_of, rest_of}
+use Rattle.rml_grammar.specs.Lacks.{LacksName}
 use Rattle.rml_grammar.specs.Reading.{◌>>=◌, Parser, repeated, separated, before, inside, long_at}
 use Rattle.rml_grammar.specs.Trees.{named_type, product_type}
 use Rattle.rml_grammar.specs.Types.{Inner, name_by, name_next, longs_at, bracket_type, tatom_by, tatom, product, one_from, tseq_from, tseq_inside, tseq_by, tseq, types_of, outputs, signature, bracket_from, bracket_by, in_bracket, bracket_at, inner_bracket, tatom_at, type_at, tseq_at, sig_at}
@@ -37,7 +39,7 @@ pub same-name : (us vs : List Spot) → name_next us ≡ Some vs → us ≡ vs
 same-name us vs e = same-by us vs (front_of us) e
 
 pub longs-sound : (us : List Spot) → Reads IsLongs us (longs_at us)
-longs-sound = repeated-sound name_next long_at IsLongs refl (λ us e. s.no_long e)
+longs-sound = repeated-sound name_next long_at IsLongs refl (λ us e. s.no_long (name-lacks us e))
     (λ us vs e. rw (same-name us vs e) (holds-map (λ x. IsLong vs x.0 x.1) (λ x. (length x.1 < length vs) × ((ts : List Long) (rest : List Spot) → IsLongs x.1 ts rest → IsLongs vs (x.0 ∷ ts) rest)) (long_at vs) (long-sound vs)
     (λ x h. (shorter-long h, λ ts rest g. s.more_longs h g))))
 
@@ -49,7 +51,7 @@ pub data IsBracket : List Spot → Bracket → List Spot → Type 0 where
 -- inputs or outputs
 pub data IsSeq : List Spot → Types → List Spot → Type 0 where
   q_none : {p q : Place} {rest : List Spot} → IsSeq (sign mark.OpenRound p ∷ sign mark.CloseRound q ∷ rest) (types.Bare []) rest
-  q_bare : {us rest : List Spot} {ts : List TypeExp} → IsTypeTuple us ts rest → name_next rest ≡ None → IsSeq us (types.Bare ts) rest
+  q_bare : {us rest : List Spot} {ts : List TypeExp} → IsTypeTuple us ts rest → LacksName rest → IsSeq us (types.Bare ts) rest
   q_one : {us rest : List Spot} {t : TypeExp} → IsType us t rest → IsSeq us (types.One t) rest
 
 pub seq-tseq : {us rest : List Spot} {t : Types} → IsSeq us t rest → IsTseq us (types_of t) rest

@@ -17,8 +17,8 @@ use Rattle.rml_grammar.specs.declared.front.Front.{Front}
 use Rattle.rml_grammar.specs.declared.front.Front.TheVariants as front
 use Rattle.rml_grammar.specs.declared.front.Opening.{Opening}
 use Rattle.rml_grammar.specs.declared.front.Opening.TheVariants as opening
-use Rattle.rml_grammar.specs.Patterns.{binder_at}
 use Rattle.rml_grammar.specs.Tokens.{word, named, tyvar, literal, sign, dashes, after, after_word, front_of, front_in, opening_of, opening_in}
+use Rattle.rml_grammar.specs.Lacks.{LacksBinder}
 
 -- by what stands first, where one token decides
 pub data Begins : List Spot → Type 0 where
@@ -157,22 +157,22 @@ same-sign mark.Wild p us = refl
 -- a name and an `as` that stand first, or do not
 pub data Binds : List Spot → Type 0 where
   an_as : {n : ℕ} {p q : Place} {us : List Spot} → Binds (named n p ∷ word key.KAs q ∷ us)
-  no_as : {us : List Spot} → binder_at us ≡ None → Binds us
+  no_as : {us : List Spot} → LacksBinder us → Binds us
 
 binds-name : (n : ℕ) (p : Place) (us : List Spot) → HasWord key.KAs us → Binds (named n p ∷ us)
 binds-name n p us said = an_as
-binds-name n p us (unsaid e) = no_as (rw e refl)
+binds-name n p us (unsaid e) = no_as e
 
 binds-in : (t : Token) (p : Place) (us : List Spot) → Binds (record { token = t; place = p } ∷ us)
-binds-in (token.Word k) p us = no_as refl
+binds-in (token.Word k) p us = no_as tt
 binds-in (token.Name n) p us = binds-name n p us (has-word key.KAs us)
-binds-in (token.TyVar n) p us = no_as refl
-binds-in (token.Lit l) p us = no_as refl
-binds-in (token.Sign m) p us = no_as refl
-binds-in (token.Dashes n) p us = no_as refl
+binds-in (token.TyVar n) p us = no_as tt
+binds-in (token.Lit l) p us = no_as tt
+binds-in (token.Sign m) p us = no_as tt
+binds-in (token.Dashes n) p us = no_as tt
 
 pub binds : (us : List Spot) → Binds us
-binds [] = no_as refl
+binds [] = no_as tt
 binds (s ∷ us) = binds-in s.token s.place us
 
 -- a word is itself

@@ -1,4 +1,5 @@
 pub mod Tokens
+pub mod Lacks
 pub mod Trees
 pub mod SpelledNames
 pub mod SpelledTypes

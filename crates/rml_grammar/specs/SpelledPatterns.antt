@@ -1,6 +1,6 @@
 -- What is a pattern: a case for each production, between the front of a list of tokens, the tree and the tokens
--- that follow. What may be repeated or left out goes as far as it can; no production lets such a token follow.
-use Rattle.std.specs.Prelude.{◌≡◌, ℕ, Bool, true, false, List, [], ◌∷◌, Option, Some, None}
+-- that follow. What may be repeated or left out goes as far as it can.
+use Rattle.std.specs.Prelude.{◌≡◌, ℕ, Bool, true, false, List, [], ◌∷◌}
 use Rattle.rml_base.specs.declared.place.Place.{Place}
 use Rattle.rml_syntax.specs.declared.token.Spot.{Spot}
 use Rattle.rml_syntax.specs.declared.token.Lit.{Lit}
@@ -12,7 +12,7 @@ use Rattle.rml_syntax.specs.declared.rules.Pattern.TheVariants as pat
 use Rattle.rml_grammar.specs.declared.front.Front.{Front}
 use Rattle.rml_grammar.specs.declared.front.Front.TheVariants as front
 use Rattle.rml_grammar.specs.Tokens.{named, word, literal, sign, Lacks, front_of}
-use Rattle.rml_grammar.specs.Patterns.{binder_at}
+use Rattle.rml_grammar.specs.Lacks.{LacksBinder}
 use Rattle.rml_grammar.specs.SpelledNames.{IsLong}
 use Rattle.rml_grammar.specs.Trees.{chain_pat}
 
@@ -29,7 +29,7 @@ mutual
   -- pat = [name `as`] pcons
   pub data IsPat : List Spot → Pattern → List Spot → Type 0 where
     bound : {us rest : List Spot} {n : ℕ} {p q : Place} {t : Pattern} → IsPcons us t rest → IsPat (named n p ∷ word key.KAs q ∷ us) (pat.Bind n p t) rest
-    unbound : {us rest : List Spot} {t : Pattern} → binder_at us ≡ None → IsPcons us t rest → IsPat us t rest
+    unbound : {us rest : List Spot} {t : Pattern} → LacksBinder us → IsPcons us t rest → IsPat us t rest
 
   -- pcons = papp {`::` papp}
   pub data IsPcons : List Spot → Pattern → List Spot → Type 0 where

@@ -1,7 +1,6 @@
 -- What is a rule, a declaration and a text: a case for each production, between the front of a list of tokens, the tree
--- and the tokens that follow. What may be repeated or left out goes as far as it can; no production lets such a token
--- follow.
-use Rattle.std.specs.Prelude.{◌≡◌, ℕ, ◌-◌, List, [], ◌∷◌, length, Option, Some, None}
+-- and the tokens that follow. What may be repeated or left out goes as far as it can.
+use Rattle.std.specs.Prelude.{ℕ, ◌-◌, List, [], ◌∷◌, length, Option, Some, None}
 use Rattle.rml_base.specs.declared.place.Place.{Place}
 use Rattle.rml_syntax.specs.declared.token.Spot.{Spot}
 use Rattle.rml_syntax.specs.declared.token.Lit.TheVariants as lit
@@ -20,8 +19,9 @@ use Rattle.rml_syntax.specs.declared.texts.Uses.{Uses}
 use Rattle.rml_syntax.specs.declared.texts.Decl.{Decl}
 use Rattle.rml_syntax.specs.declared.texts.Decl.TheVariants as decl
 use Rattle.rml_syntax.specs.declared.texts.Text.{Text}
-use Rattle.rml_grammar.specs.Tokens.{word, named, tyvar, literal, sign, dashes, after_word, Lacks, LacksWord}
-use Rattle.rml_grammar.specs.Texts.{clause_next, spec_next, decl_next, uses_next, Head, rule_of}
+use Rattle.rml_grammar.specs.Tokens.{word, named, tyvar, literal, sign, dashes, Lacks, LacksWord}
+use Rattle.rml_grammar.specs.Lacks.{LacksClause, LacksDecl, LacksSpec, LacksUses}
+use Rattle.rml_grammar.specs.Texts.{Head, rule_of}
 use Rattle.rml_grammar.specs.SpelledTypes.{IsTatom, IsFactors, IsType, IsSig}
 use Rattle.rml_grammar.specs.SpelledPatterns.{IsPargs}
 use Rattle.rml_grammar.specs.SpelledExpressions.{IsExp, IsEseq}
@@ -96,7 +96,7 @@ pub data IsClause : List Spot → Rule → List Spot → Type 0 where
 
 -- {clause}
 pub data IsMoreClauses : List Spot → List Rule → List Spot → Type 0 where
-  no_more_clauses : {us : List Spot} → clause_next us ≡ None → IsMoreClauses us [] us
+  no_more_clauses : {us : List Spot} → LacksClause us → IsMoreClauses us [] us
   more_clauses : {us vs rest : List Spot} {r : Rule} {rs : List Rule} → IsClause us r vs → IsMoreClauses vs rs rest → IsMoreClauses us (r ∷ rs) rest
 
 -- [`:` type]
@@ -120,17 +120,17 @@ pub data IsDecl : List Spot → Decl → List Spot → Type 0 where
 
 -- uses = `with` text-literal, any number of them
 pub data IsUses : List Spot → List Uses → List Spot → Type 0 where
-  no_uses : {us : List Spot} → uses_next us ≡ None → IsUses us [] us
+  no_uses : {us : List Spot} → LacksUses us → IsUses us [] us
   more_uses : {us rest : List Spot} {f : ℕ} {p q : Place} {fs : List Uses} → IsUses us fs rest → IsUses (word key.KWith p ∷ literal (lit.Text f) q ∷ us) (record { file = f; place = p } ∷ fs) rest
 
 -- {spec}
 pub data IsSpecs : List Spot → List Decl → List Spot → Type 0 where
-  no_spec : {us : List Spot} → spec_next us ≡ None → IsSpecs us [] us
+  no_spec : {us : List Spot} → LacksSpec us → IsSpecs us [] us
   more_specs : {us vs rest : List Spot} {d : Decl} {ds : List Decl} → IsSpec us d vs → IsSpecs vs ds rest → IsSpecs us (d ∷ ds) rest
 
 -- {decl}
 pub data IsDecls : List Spot → List Decl → List Spot → Type 0 where
-  no_decl : {us : List Spot} → decl_next us ≡ None → IsDecls us [] us
+  no_decl : {us : List Spot} → LacksDecl us → IsDecls us [] us
   more_decls : {us vs rest : List Spot} {d : Decl} {ds : List Decl} → IsDecl us d vs → IsDecls vs ds rest → IsDecls us (d ∷ ds) rest
 
 -- text = `module` name `:` {uses} {spec} `end` {uses} {decl}, with the place of its end, and nothing behind it

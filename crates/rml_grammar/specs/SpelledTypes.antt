@@ -1,6 +1,6 @@
 -- What is a type and a signature: a case for each production, between the front of a list of tokens, the tree and the
--- tokens that follow. What may be repeated or left out goes as far as it can; no production lets such a token follow.
-use Rattle.std.specs.Prelude.{◌≡◌, ℕ, List, [], ◌∷◌, Option, Some, None}
+-- tokens that follow. What may be repeated or left out goes as far as it can.
+use Rattle.std.specs.Prelude.{ℕ, List, [], ◌∷◌}
 use Rattle.rml_base.specs.declared.place.Place.{Place}
 use Rattle.rml_syntax.specs.declared.token.Spot.{Spot}
 use Rattle.rml_syntax.specs.declared.token.Mark.TheVariants as mark
@@ -9,13 +9,13 @@ use Rattle.rml_syntax.specs.declared.types.TypeExp.{TypeExp}
 use Rattle.rml_syntax.specs.declared.types.TypeExp.TheVariants as type
 use Rattle.rml_syntax.specs.declared.types.Sig.{Sig}
 use Rattle.rml_grammar.specs.Tokens.{tyvar, sign, Lacks}
-use Rattle.rml_grammar.specs.Types.{name_next}
+use Rattle.rml_grammar.specs.Lacks.{LacksName}
 use Rattle.rml_grammar.specs.Trees.{named_type, product_type}
 use Rattle.rml_grammar.specs.SpelledNames.{IsLong}
 
 -- {long}
 pub data IsLongs : List Spot → List Long → List Spot → Type 0 where
-  no_long : {us : List Spot} → name_next us ≡ None → IsLongs us [] us
+  no_long : {us : List Spot} → LacksName us → IsLongs us [] us
   more_longs : {us vs rest : List Spot} {l : Long} {ls : List Long} → IsLong us l vs → IsLongs vs ls rest → IsLongs us (l ∷ ls) rest
 
 mutual
@@ -26,7 +26,7 @@ mutual
   -- tseq = `(` `)` | `(` type `,` type {`,` type} `)` | type
   pub data IsTseq : List Spot → List TypeExp → List Spot → Type 0 where
     no_types : {p q : Place} {rest : List Spot} → IsTseq (sign mark.OpenRound p ∷ sign mark.CloseRound q ∷ rest) [] rest
-    types : {us rest : List Spot} {ts : List TypeExp} → IsTypeTuple us ts rest → name_next rest ≡ None → IsTseq us ts rest
+    types : {us rest : List Spot} {ts : List TypeExp} → IsTypeTuple us ts rest → LacksName rest → IsTseq us ts rest
     one_type : {us rest : List Spot} {t : TypeExp} → IsType us t rest → IsTseq us (t ∷ []) rest
 
   -- `(` type `,` type {`,` type} `)`

@@ -10,7 +10,9 @@ use Rattle.rml_lex.specs.Machine.{Longest, Stuck}
 use Rattle.rml_lex.specs.Places.{place_after, start}
 use Rattle.rml_lex.specs.Reading.{HasReading, IsSound, Part, Reaches, behind, marks}
 use Rattle.rml_lex.specs.Spelling.{whole}
+use Rattle.rml_lex.specs.Spells.{BeginsNothing, HasLongest, IsLongest}
 use Rattle.rml_lex.proofs.Longests.{longest-pos}
+use Rattle.rml_lex.proofs.Wholes.{longest-is, stuck-is}
 
 -- the longest front that spells anything, if any does
 record Longer (f : List ℕ → Option Piece) (bytes : List ℕ) : Type 0 where
@@ -40,6 +42,12 @@ search-down f bytes (suc k) le none = at-front f bytes (suc k) le none (f (take 
 longest-or-stuck : (f : List ℕ → Option Piece) (bytes : List ℕ) → Longer f bytes ⊎ Stuck f bytes
 longest-or-stuck f bytes = search-down f bytes (length bytes) (omega arith) (λ m lt le. absurd (omega arith))
 
+pub has-longest : (bytes : List ℕ) → HasLongest bytes ⊎ BeginsNothing bytes
+has-longest bytes = elim (longest-or-stuck whole bytes) [
+  | inl l ↦ inl (l.n, l.p, longest-is bytes l.n l.p l.is)
+  | inr stuck ↦ inr (stuck-is bytes stuck)
+]
+
 abbrev Fault : Piece → Type 0
 Fault p = (k : LexKind) × (at : ℕ) × (p ≡ piece.Faulty k at)
 
@@ -58,13 +66,13 @@ sound-or-fault (piece.Faulty k at) = inr (k, at, refl)
 
 -- pieces that lead to the end, or to a fault, whatever place the bytes stand at
 abbrev Failing : List ℕ → Type 0
-Failing rest = ((0 < length rest) × Stuck whole rest) ⊎ ((n : ℕ) × (k : LexKind) × (at : ℕ) × Longest whole rest n (piece.Faulty k at))
+Failing rest = ((0 < length rest) × BeginsNothing rest) ⊎ ((n : ℕ) × (k : LexKind) × (at : ℕ) × IsLongest rest n (piece.Faulty k at))
 
 data Outcome (bytes : List ℕ) : Type 0 where
   All : (parts : List Part) → Reaches bytes parts [] → Outcome bytes
   Fails : (parts : List Part) (rest : List ℕ) → Reaches bytes parts rest → Failing rest → Outcome bytes
 
-in-front : (bytes : List ℕ) (part : Part) (more : List ℕ) → bytes ≡ part.0 ++ more → 0 < length part.0 → Longest whole bytes (length part.0) part.1 → IsSound part.1 → Outcome more → Outcome bytes
+in-front : (bytes : List ℕ) (part : Part) (more : List ℕ) → bytes ≡ part.0 ++ more → 0 < length part.0 → IsLongest bytes (length part.0) part.1 → IsSound part.1 → Outcome more → Outcome bytes
 in-front bytes part more e pos l sound (All parts r) = All (part ∷ parts) (more, e, pos, l, sound, r)
 in-front bytes part more e pos l sound (Fails parts rest r f) = Fails (part ∷ parts) rest (more, e, pos, l, sound, r) f
 
@@ -75,16 +83,16 @@ outcome : (fuel : ℕ) (bytes : List ℕ) → length bytes ≤ fuel → Outcome 
 outcome fuel [] le = All [] refl
 outcome zero (b ∷ bs) le = absurd (omega arith)
 outcome (suc fuel) (b ∷ bs) le = elim (longest-or-stuck whole (b ∷ bs)) [
-  | inr stuck ↦ Fails [] (b ∷ bs) refl (inl (omega arith, stuck))
+  | inr stuck ↦ Fails [] (b ∷ bs) refl (inl (omega arith, stuck-is (b ∷ bs) stuck))
   | inl l ↦ elim (sound-or-fault l.p) [
-    | inr (k, at, e) ↦ Fails [] (b ∷ bs) refl (inr (l.n, k, at, (rw e at l.is)))
+    | inr (k, at, e) ↦ Fails [] (b ∷ bs) refl (inr (l.n, k, at, longest-is (b ∷ bs) l.n (piece.Faulty k at) (rw e at l.is)))
     | inl sound ↦ (
         let bytes : List ℕ = b ∷ bs in
         let within : l.n ≤ length bytes = (let i = l.is in i.within) in
         let pos : 0 < l.n = longest-pos whole bytes l.n l.p refl l.is in
         let size : length (take l.n bytes) ≡ l.n = taken bytes l.n within in
         let rest : length (drop l.n bytes) ≤ fuel = omega (arith, length-drop l.n bytes, le) in
-        in-front bytes (take l.n bytes, l.p) (drop l.n bytes) (sym (take-append-drop l.n bytes)) (rw size pos) (rw size l.is) sound (outcome fuel (drop l.n bytes) rest))
+        in-front bytes (take l.n bytes, l.p) (drop l.n bytes) (sym (take-append-drop l.n bytes)) (rw size pos) (rw size (longest-is bytes l.n l.p l.is)) sound (outcome fuel (drop l.n bytes) rest))
   ]
 ]
 

@@ -12,3 +12,4 @@ pub mod Numerals
 pub mod Wholes
 pub mod PlacesBehind
 pub mod Decided
+pub mod FewTokens

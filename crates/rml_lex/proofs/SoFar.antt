@@ -4,8 +4,9 @@ use Rattle.std.proofs.lemmas.List.{map-append}
 use Rattle.std.proofs.lemmas.List.Elements.{All-append}
 use Rattle.std.proofs.Math.ListN.{get_or-append, length-append}
 use Rattle.std.specs.Prelude.{All}
-use Rattle.rml_lex.specs.Machine.{Longest}
 use Rattle.rml_lex.specs.Spelling.{whole}
+use Rattle.rml_lex.specs.Spells.{IsLongest}
+use Rattle.rml_lex.proofs.Wholes.{spells-whole}
 use Rattle.rml_lex.specs.Places.{place_after, start}
 use Rattle.rml_lex.specs.Character.{unescaped, values_from}
 use Rattle.rml_lex.specs.declared.character.Inside.TheVariants.{Between}
@@ -42,7 +43,7 @@ text_of names now b inside v n p is cut values e en =
     (rw (is, h.0, same) refl, h.1)
 
 pub reaches-more : (bytes : List ℕ) (parts : List Part) (rest : List ℕ) (part : Part) (more : List ℕ) → Reaches bytes parts rest
-    → rest ≡ part.0 ++ more → 0 < length part.0 → Longest whole rest (length part.0) part.1 → IsSound part.1 → Reaches bytes (parts ++ part ∷ []) more
+    → rest ≡ part.0 ++ more → 0 < length part.0 → IsLongest rest (length part.0) part.1 → IsSound part.1 → Reaches bytes (parts ++ part ∷ []) more
 reaches-more bytes [] rest part more r e pos l sound = (more, (r ∙ e), pos, rw r l, sound, refl)
 reaches-more bytes (p ∷ ps) rest part more r e pos l sound = (r.0, r.1, r.2, r.3, r.4, reaches-more r.0 ps rest part more r.5 e pos l sound)
 
@@ -54,8 +55,8 @@ marks-more : (at : Place) (parts : List Part) (part : Part) → marks at (parts 
 marks-more at [] part = append-nil (map (λ t. (at, t)) (tokens_of part))
 marks-more at (p ∷ ps) part = rw (marks-more (place_after at p.0) ps part) (sym (append_assoc (map (λ t. (at, t)) (tokens_of p)) (marks (place_after at p.0) ps) (map (λ t. (behind (place_after at p.0) ps, t)) (tokens_of part))))
 
-pub longest-pos : (rest : List ℕ) (n : ℕ) (p : Piece) → Longest whole rest n p → 0 < n
-longest-pos rest zero p l = absurd (cc l.spelled)
+pub longest-pos : (rest : List ℕ) (n : ℕ) (p : Piece) → IsLongest rest n p → 0 < n
+longest-pos rest zero p l = let e : whole [] ≡ Some p = spells-whole [] p l.spelled in absurd (cc e)
 longest-pos rest (suc n) p l = omega arith
 
 -- a token shows the same under more names
@@ -154,7 +155,7 @@ spots-numbered names (s ∷ ss) d h =
 
 pub reads-more : (text : ℕ) (bytes : List ℕ) (old : List (List ℕ)) (rest : List ℕ) (at : Place) (spots : List Spot) (names : List (List ℕ))
     (front more : List ℕ) (p : Piece) (t : Option Token) (after : Place) (spots' : List Spot) (names' : List (List ℕ))
-    → Reads text bytes old rest at spots names → rest ≡ front ++ more → Longest whole rest (length front) p → IsSound p
+    → Reads text bytes old rest at spots names → rest ≡ front ++ more → IsLongest rest (length front) p → IsSound p
     → GrowsBy 1 names names' → IsTokenOf names' (front, p) t → after ≡ place_after at front → spots' ≡ spots ++ spots_at at t
     → Reads text bytes old more after spots' names'
 reads-more text bytes old rest at spots names front more p t after spots' names' r cut l sound grows is ea es = record {

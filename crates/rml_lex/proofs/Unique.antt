@@ -2,8 +2,9 @@
 use Rattle.std.proofs.Common.{◌≡◌, ℕ, zero, suc, ◌<◌, List, [], ◌∷◌, ◌++◌, length, take, refl, sym, ap, ◌∙◌, arith, Some, inl, inr, subst}
 use Rattle.rml_lex.specs.declared.piece.Piece.{Piece}
 use Rattle.rml_lex.specs.declared.piece.Piece.TheVariants as piece
-use Rattle.rml_lex.specs.Machine.{Longest}
 use Rattle.rml_lex.specs.Spelling.{whole}
+use Rattle.rml_lex.specs.Spells.{IsLongest, Spells}
+use Rattle.rml_lex.proofs.Wholes.{one-piece, spells-whole}
 use Rattle.rml_lex.specs.Places.{place_after, start}
 use Rattle.rml_lex.specs.Reading.{AllGiven, Part, Reaches, IsSound, Faults, FirstFault, IsFault, Shown, Spelled, behind, marks, shown}
 use Rattle.rml_lex.specs.Numbered.{IsNumbered, names_in, spots_in, with_names}
@@ -18,24 +19,24 @@ use Rattle.std.specs.declared.alloc.Global.{Global}
 use Rattle.rml_base.specs.declared.place.Place.{Place}
 use Rattle.rml_lex.specs.declared.piece.LexKind.{LexKind}
 
-nothing-read : (bytes : List ℕ) (n : ℕ) (p : Piece) → n ≡ 0 → whole (take n bytes) ≡ Some p → ⊥
-nothing-read bytes zero p e h = cc
+nothing-read : (bytes : List ℕ) (n : ℕ) (p : Piece) → n ≡ 0 → Spells (take n bytes) p → ⊥
+nothing-read bytes zero p e h = let w : whole [] ≡ Some p = spells-whole [] p h in cc
 nothing-read bytes (suc n) p e h = omega arith
 
 not-sound : (p q : Piece) → p ≡ q → IsSound p → (k : LexKind) (at : ℕ) → q ≡ piece.Faulty k at → ⊥
 not-sound p q e s k at f = let g : IsSound (piece.Faulty k at) = subst (λ (x : Piece). IsSound x) (e ∙ f) s in g
 
-not-longer : (bytes : List ℕ) (n m : ℕ) (p q : Piece) → Longest whole bytes n p → Longest whole bytes m q → n < m → ⊥
-not-longer bytes n m p q l k lt = let a = l.longer m lt k.within in let b = k.spelled in cc
+not-longer : (bytes : List ℕ) (n m : ℕ) (p q : Piece) → IsLongest bytes n p → IsLongest bytes m q → n < m → ⊥
+not-longer bytes n m p q l k lt = l.longer m q lt k.within k.spelled
 
-pub same-length : (bytes : List ℕ) (n m : ℕ) (p q : Piece) → Longest whole bytes n p → Longest whole bytes m q → n ≡ m
+pub same-length : (bytes : List ℕ) (n m : ℕ) (p q : Piece) → IsLongest bytes n p → IsLongest bytes m q → n ≡ m
 same-length bytes n m p q l k =
     let a : n < m → ⊥ = not-longer bytes n m p q l k in
     let b : m < n → ⊥ = not-longer bytes m n q p k l in
     grind (arith, a, b)
 
-pub same-piece : (bytes : List ℕ) (n m : ℕ) (p q : Piece) → Longest whole bytes n p → Longest whole bytes m q → p ≡ q
-same-piece bytes n m p q l k = let e = same-length bytes n m p q l k in let a = l.spelled in let b = k.spelled in cc
+pub same-piece : (bytes : List ℕ) (n m : ℕ) (p q : Piece) → IsLongest bytes n p → IsLongest bytes m q → p ≡ q
+same-piece bytes n m p q l k = one-piece (take n bytes) p q l.spelled (subst (λ (i : ℕ). Spells (take i bytes) q) (sym (same-length bytes n m p q l k)) k.spelled)
 
 pub split : (xs ys a b : List ℕ) → length xs ≡ length ys → xs ++ a ≡ ys ++ b → (xs ≡ ys) × (a ≡ b)
 split [] [] a b n e = (refl, e)
@@ -58,8 +59,8 @@ faultless : (rest : List ℕ) (at place : Place) (kind : LexKind) → rest ≡ [
 faultless rest at place kind e (inl f) = let n = ap length e in let p = f.0 in omega arith
 faultless rest at place kind e (inr f) = let l = f.2 in let n = ap length e in let w = l.within in let z : f.0 ≡ 0 = omega arith in let sp = l.spelled in nothing-read rest f.0 (piece.Faulty kind f.1) z sp
 
-sound-piece : (bytes : List ℕ) (p : Part) → 0 < length p.0 → Longest whole bytes (length p.0) p.1 → IsSound p.1 → (at place : Place) (kind : LexKind) → Faults at bytes place kind → ⊥
-sound-piece bytes p pos l sound at place kind (inl f) = let a = f.1 (length p.0) l.within in let b = l.spelled in cc
+sound-piece : (bytes : List ℕ) (p : Part) → 0 < length p.0 → IsLongest bytes (length p.0) p.1 → IsSound p.1 → (at place : Place) (kind : LexKind) → Faults at bytes place kind → ⊥
+sound-piece bytes p pos l sound at place kind (inl f) = f.1 (length p.0) p.1 l.within l.spelled
 sound-piece bytes p pos l sound at place kind (inr f) = not-sound p.1 (piece.Faulty kind f.1) (same-piece bytes (length p.0) f.0 p.1 (piece.Faulty kind f.1) l f.2) sound kind f.1 refl
 
 -- two readings of the whole are one
@@ -88,8 +89,8 @@ no-fault (p ∷ ps) (q ∷ qs) bytes rest at place kind r s f =
 -- two faults at the front of the same bytes are one
 one-fault : (rest : List ℕ) (at p q : Place) (j k : LexKind) → Faults at rest p j → Faults at rest q k → (p ≡ q) × (j ≡ k)
 one-fault rest at p q j k (inl f) (inl g) = (f.2 ∙ sym g.2, f.3 ∙ sym g.3)
-one-fault rest at p q j k (inl f) (inr g) = absurd (let a = f.1 g.0 (let w = g.2 in w.within) in let b = (let w = g.2 in w.spelled) in cc (a, b))
-one-fault rest at p q j k (inr f) (inl g) = absurd (let a = g.1 f.0 (let w = f.2 in w.within) in let b = (let w = f.2 in w.spelled) in cc (a, b))
+one-fault rest at p q j k (inl f) (inr g) = absurd (let w = g.2 in f.1 g.0 (piece.Faulty k g.1) w.within w.spelled)
+one-fault rest at p q j k (inr f) (inl g) = absurd (let w = f.2 in g.1 f.0 (piece.Faulty j f.1) w.within w.spelled)
 one-fault rest at p q j k (inr f) (inr g) =
     let n = same-length rest f.0 g.0 (piece.Faulty j f.1) (piece.Faulty k g.1) f.2 g.2 in
     let s = same-piece rest f.0 g.0 (piece.Faulty j f.1) (piece.Faulty k g.1) f.2 g.2 in

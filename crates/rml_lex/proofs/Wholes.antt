@@ -1,6 +1,6 @@
 -- `whole` and the sentences of `Spells` agree.
 use Rattle.std.proofs.Common.{◌≡◌, ℕ, ◌<◌, ◌≤◌, Bool, true, false, List, [], ◌∷◌, ◌++◌, length, take, refl, sym, ap, ◌∙◌, arith, Option, Some, None, append_assoc, append-nil, ◌⊎◌, inl, inr}
-use Rattle.std.specs.Prelude.{◌==◌, ◌&&◌, nat_le, if◌then◌else◌, find}
+use Rattle.std.specs.Prelude.{◌==◌, ◌&&◌, nat_le, if◌then◌else◌, find, MatchOption}
 use Rattle.std.specs.List.{list_all}
 use Rattle.std.specs.Cmp.Lexicographic.{same_text}
 use Rattle.std.proofs.lemmas.Bool.Decides.{nat_tests}
@@ -468,3 +468,8 @@ stuck-is bytes stuck m p le is = not-spelled (take m bytes) p (stuck m le) is
 
 pub is-stuck : (bytes : List ℕ) → BeginsNothing bytes → Stuck whole bytes
 is-stuck bytes none m le = spells-nothing (take m bytes) (whole (take m bytes)) refl (λ p is. none m p le is)
+
+-- what is found is the longest piece, or none begins there
+pub found-is : (bytes : List ℕ) (r : Option (ℕ × Piece)) → MatchOption r (Stuck whole bytes) (λ x. Longest whole bytes x.0 x.1) → MatchOption r (BeginsNothing bytes) (λ x. IsLongest bytes x.0 x.1)
+found-is bytes None h = stuck-is bytes h
+found-is bytes (Some x) h = longest-is bytes x.0 x.1 h

@@ -14,9 +14,8 @@ use Rattle.rml_lex.specs.declared.piece.Piece.TheVariants as piece
 use Rattle.rml_lex.specs.declared.tokens.LexErr.{LexErr}
 use Rattle.rml_lex.specs.declared.tokens.LexErr.TheVariants as error
 use Rattle.rml_lex.specs.Character.{unescaped}
-use Rattle.rml_lex.specs.Machine.{Longest, Stuck}
 use Rattle.rml_lex.specs.Places.{place_after, start}
-use Rattle.rml_lex.specs.Spelling.{whole}
+use Rattle.rml_lex.specs.Spells.{BeginsNothing, IsLongest}
 
 -- a token with bytes in place of numbers
 pub data Shown : Type 0 where
@@ -54,7 +53,7 @@ IsSound _ = Unit {0}
 -- Pieces lead from the bytes to the rest: each is the longest that stands at its place, and none is a fault.
 abbrev pub Reaches : List ℕ → List Part → List ℕ → Type 0
 Reaches bytes [] rest = bytes ≡ rest
-Reaches bytes (part ∷ parts) rest = (more : List ℕ) × (bytes ≡ part.0 ++ more) × (0 < length part.0) × Longest whole bytes (length part.0) part.1 × IsSound part.1 × Reaches more parts rest
+Reaches bytes (part ∷ parts) rest = (more : List ℕ) × (bytes ≡ part.0 ++ more) × (0 < length part.0) × IsLongest bytes (length part.0) part.1 × IsSound part.1 × Reaches more parts rest
 
 -- the tokens among the pieces, with their places
 abbrev pub marks : Place → List Part → List (Place × Shown)
@@ -73,8 +72,8 @@ Spelled text bytes spots = (parts : List Part) × Reaches bytes parts [] × (spo
 -- a fault at the front of the rest: no piece stands there, or the longest one is a fault, at its offset
 abbrev pub Faults : Place → List ℕ → Place → LexKind → Type 0
 Faults at rest place kind =
-    ((0 < length rest) × Stuck whole rest × (place ≡ at) × (kind ≡ BadByte))
-    ⊎ ((n : ℕ) × (offset : ℕ) × Longest whole rest n (piece.Faulty kind offset) × (place ≡ place_after at (take offset (take n rest))))
+    ((0 < length rest) × BeginsNothing rest × (place ≡ at) × (kind ≡ BadByte))
+    ⊎ ((n : ℕ) × (offset : ℕ) × IsLongest rest n (piece.Faulty kind offset) × (place ≡ place_after at (take offset (take n rest))))
 
 -- pieces without a fault reach one
 abbrev pub FirstFault : ℕ → List ℕ → Place → LexKind → Type 0

@@ -1,5 +1,5 @@
 -- What the whole of some bytes spells, in words of their own: the table of tokens, one sentence for each kind of piece,
--- faults among them. `whole` decides it.
+-- faults among them.
 use Rattle.std.specs.Prelude.{◌≡◌, ℕ, ◌<◌, ◌≤◌, Bool, true, false, List, [], ◌∷◌, ◌++◌, length, take, Some, ◌⊎◌, IsTrue}
 use Rattle.std.specs.List.{list_all}
 use Rattle.rml_base.specs.declared.limits.TheConstants.{LITERAL}
@@ -152,6 +152,9 @@ pub record IsLongest (bytes : List ℕ) (n : ℕ) (p : Piece) : Type 0 where
   pub within : n ≤ length bytes
   pub spelled : Spells (take n bytes) p
   pub longer : (m : ℕ) (q : Piece) → n < m → m ≤ length bytes → Spells (take m bytes) q → ⊥
+
+abbrev pub HasLongest : List ℕ → Type 0
+HasLongest bytes = (n : ℕ) × (p : Piece) × IsLongest bytes n p
 
 -- no front of the bytes is any piece
 abbrev pub BeginsNothing : List ℕ → Type 0

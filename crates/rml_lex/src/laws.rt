@@ -3,13 +3,11 @@
 ghost use Rattle.rml_base.specs.declared.place.Place.{Place};
 ghost use Rattle.rml_lex.specs.Reading.{FirstFault, HasReading, Part, Reaches, Shown, Spelled};
 ghost use Rattle.rml_lex.specs.declared.piece.LexKind.{LexKind};
-ghost use Rattle.rml_lex.specs.Spelling.{whole};
-ghost use Rattle.rml_lex.specs.Spells.{BeginsNothing, IsLongest, IsText, Spells};
+ghost use Rattle.rml_lex.specs.Spells.{BeginsNothing, HasLongest, IsLongest, IsText, Spells};
 ghost use Rattle.rml_lex.specs.Character.{unescaped};
-ghost use Rattle.rml_lex.specs.Machine.{Longest, Stuck};
 ghost use Rattle.rml_lex.specs.Places.{IsPlace, IsWithinLine, place_after, start};
 ghost use Rattle.rml_lex.specs.declared.piece.Piece.{Piece};
-ghost use Rattle.std.specs.Prelude.{◌≡◌, ℕ, ◌+◌, ◌==◌, List, [], ◌∷◌, ◌++◌, Some, count_by, length};
+ghost use Rattle.std.specs.Prelude.{◌≡◌, ◌⊎◌, ℕ, ◌+◌, ◌==◌, List, [], ◌∷◌, ◌++◌, count_by, length};
 
 /// A text has its tokens or a first fault.
 pub fn each_is_read()
@@ -24,20 +22,16 @@ pub fn one_reading()
     ensures fault { (text : ℕ) (bytes : List ℕ) (p q : Place) (j k : LexKind) → FirstFault text bytes p j → FirstFault text bytes q k → (p ≡ q) × (j ≡ k) }
 {}
 
-/// `Spells` says in words of their own what each kind of piece is, faults among them, and `whole` computes it. So no bytes
-/// are two pieces.
-pub fn spelling_exact()
-    ensures spelled { (s : List ℕ) (p : Piece) → whole s ≡ Some p → Spells s p }
-    ensures whole { (s : List ℕ) (p : Piece) → Spells s p → whole s ≡ Some p }
-    ensures one { (s : List ℕ) (p q : Piece) → Spells s p → Spells s q → p ≡ q }
+/// No bytes are two pieces, faults among them.
+pub fn one_piece()
+    ensures { (s : List ℕ) (p q : Piece) → Spells s p → Spells s q → p ≡ q }
 {}
 
-/// The longest piece at the front of some bytes, in the same words.
-pub fn longest_exact()
-    ensures longest { (bytes : List ℕ) (n : ℕ) (p : Piece) → Longest whole bytes n p → IsLongest bytes n p }
-    ensures is_longest { (bytes : List ℕ) (n : ℕ) (p : Piece) → IsLongest bytes n p → Longest whole bytes n p }
-    ensures stuck { (bytes : List ℕ) → Stuck whole bytes → BeginsNothing bytes }
-    ensures begins_nothing { (bytes : List ℕ) → BeginsNothing bytes → Stuck whole bytes }
+/// At the front of some bytes stands one longest piece, or none begins there.
+pub fn one_longest()
+    ensures same { (bytes : List ℕ) (n m : ℕ) (p q : Piece) → IsLongest bytes n p → IsLongest bytes m q → (n ≡ m) × (p ≡ q) }
+    ensures either { (bytes : List ℕ) → HasLongest bytes ⊎ BeginsNothing bytes }
+    ensures sound { (bytes : List ℕ) (n : ℕ) (p : Piece) → IsLongest bytes n p → BeginsNothing bytes → ⊥ }
 {}
 
 /// A text in its quotes stands for what its characters stand for, one after another.

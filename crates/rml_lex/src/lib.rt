@@ -1,8 +1,8 @@
 //! The lexer: it cuts the bytes of a text into pieces, each the longest that stands at its place, and gives the tokens
 //! with their places, or the first fault.
 //!
-//! `Spells` says what each kind of piece is, `whole` decides it of some bytes as a whole, and faults are pieces too, so one
-//! rule, "the longest", decides everything. The theorem stands on `lex`; `laws` ties the definitions to one another.
+//! `Spells` says what each kind of piece is, and faults are pieces too, so one rule, "the longest", decides everything. The
+//! theorem stands on `lex`; `laws` ties the definitions to one another. The code follows `whole`, which decides `Spells`.
 //! It knows nothing of what tokens are used for.
 #![tactic(auto)]
 

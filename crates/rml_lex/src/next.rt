@@ -2,7 +2,9 @@
 
 ghost use Rattle.rml_lex.specs.Machine.{Longest, Stuck};
 ghost use Rattle.rml_lex.specs.Spelling.{after_first, class_of, colon, dash, equals, hash, name_piece, prime, round, whole};
-ghost use Rattle.std.specs.Prelude.{◌≡◌, ◌<◌, ◌^◌, ◌∷◌, length, MatchOption};
+ghost use Rattle.rml_lex.specs.Spells.{BeginsNothing, IsLongest, Spells};
+ghost use Rattle.rml_lex.specs.declared.piece.Piece.{Piece};
+ghost use Rattle.std.specs.Prelude.{◌≡◌, ℕ, ◌<◌, ◌^◌, List, ◌∷◌, Some, length, MatchOption};
 
 use crate::bytes::{dashes_length, is_digit_byte, is_letter_byte, name_length};
 use crate::comment::comment_end;
@@ -92,6 +94,24 @@ fn after_equals(bytes: &[u8]) -> (usize, Piece)
 
 /// The longest piece that stands at the front of the bytes, with its length. None where no piece begins there.
 pub fn next_piece(bytes: &[u8]) -> Option<(usize, Piece)>
+    requires { length bytes.now < 2 ^ 32 }
+    ensures { MatchOption result (BeginsNothing bytes.now) (λ r. IsLongest bytes.now r.0 r.1) }
+{
+    longest_exact();
+    longest(bytes)
+}
+
+/// `whole` computes of some bytes what piece they are, if they are one. So the longest front of which it computes any is
+/// the longest piece.
+fn longest_exact()
+    ensures spelled { (s : List ℕ) (p : Piece) → whole s ≡ Some p → Spells s p }
+    ensures whole { (s : List ℕ) (p : Piece) → Spells s p → whole s ≡ Some p }
+    ensures longest { (bytes : List ℕ) (n : ℕ) (p : Piece) → Longest whole bytes n p → IsLongest bytes n p }
+    ensures stuck { (bytes : List ℕ) → Stuck whole bytes → BeginsNothing bytes }
+{}
+
+/// The same, as `whole` computes it.
+fn longest(bytes: &[u8]) -> Option<(usize, Piece)>
     requires { length bytes.now < 2 ^ 32 }
     ensures { MatchOption result (Stuck whole bytes.now) (λ r. Longest whole bytes.now r.0 r.1) }
 {

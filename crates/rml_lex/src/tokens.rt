@@ -81,6 +81,7 @@ pub fn lex(alloc: Global, text: u32, bytes: &[u8], names: &mut Names) -> Result<
     requires size { length bytes.now ≤ BYTES }
     requires room { length names.old ≤ 2 ^ 31 }
     ensures answer { Explains error.Memory result (λ v. Spelled text bytes.now (shown names.new v.items)) (IsFault text bytes.now) }
+    ensures few { IfOk result (λ v. length v.items ≤ length bytes.now) }
     ensures given { IfOk result (λ v. AllGiven (length names.new) v.items) }
     ensures names { GrowsBy (length bytes.now) names.old names.new }
     // What is spelled is given, and a first fault is named: but for want of memory, no other answer comes.

@@ -1,4 +1,4 @@
-pub mod Clauses
 pub mod Exact
+pub mod Stops
 pub mod Loops
-pub mod Limited
+pub mod Clauses

@@ -1,3 +1,3 @@
 pub mod Mirrors
 pub mod Answers
-pub mod Limited
+pub mod Faults

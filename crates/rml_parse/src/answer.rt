@@ -1,14 +1,15 @@
 //! The public call, and its answers.
 
 ghost use Rattle.std.specs.Prelude.{◌≡◌, ◌-◌, ◌≤◌, length};
-ghost use Rattle.rml_base.specs.Answers.{Explains, Gives};
+ghost use Rattle.rml_base.specs.Answers.{Explains, Gives, Refuses};
 ghost use Rattle.rml_base.specs.declared.limits.TheConstants.{BYTES, NESTING, RULES};
+ghost use Rattle.rml_base.specs.declared.place.Place.{Place};
 ghost use Rattle.rml_grammar.specs.Texts.{whole_text};
+ghost use Rattle.rml_grammar.specs.declared.fault.ParseKind.{ParseKind};
 ghost use Rattle.rml_syntax.specs.declared.texts.Text.{Text};
 ghost use Rattle.rml_grammar.specs.SpelledTexts.{Derives};
-ghost use Rattle.rml_grammar.specs.Limits.{WithinLimits};
-ghost use Rattle.rml_parse.specs.Answers.{IsPlaced, PassesLimit, PlacedAs, Says, place_left};
-ghost use Rattle.rml_parse.specs.Limited.{IsLimited};
+ghost use Rattle.rml_parse.specs.Answers.{PlacedAs, Says, place_left};
+ghost use Rattle.rml_parse.specs.Faults.{IsFault, IsTree, PassesLimit, StopsAt};
 ghost use Rattle.rml_parse.specs.declared.answer.ParseErr.TheVariants as error;
 
 use crate::stop::Stop;
@@ -33,11 +34,13 @@ pub enum ParseErr {
 /// named, and at one token `Unexpected`.
 pub fn parse(alloc: Global, spots: &[Spot], end: Place) -> Result<Text, ParseErr>
     requires { length spots.now ≤ BYTES }
-    ensures answer { Explains error.Memory result (λ t. Derives end spots.now t) (IsPlaced end spots.now) }
-    ensures only { (t : Text) → Derives end spots.now t → Explains error.Memory result (λ u. u ≡ t) PassesLimit }
-    ensures reads { (t : Text) → Derives end spots.now t → WithinLimits NESTING RULES spots.now → Gives error.Memory result (λ u. u ≡ t) }
-    ensures limits { Explains error.Memory result (λ _. WithinLimits NESTING RULES spots.now) (IsLimited NESTING RULES end spots.now) }
-    ensures says { Says end spots.now result (whole_text end NESTING (RULES - 1) spots.now) }
+    ensures answer { Explains error.Memory result (IsTree end spots.now) (IsFault end spots.now) }
+    // But for want of memory: the tree, where there is one within the limits, ..
+    ensures tree { (t : Text) → IsTree end spots.now t → Gives error.Memory result (λ u. u ≡ t) }
+    // .. the fault, where reading stops at one, ..
+    ensures fault { (place : Place) (kind : ParseKind) → StopsAt end spots.now place kind → Refuses error.Memory result (λ e. e ≡ error.At place kind) }
+    // .. and where there is a tree, that tree or a limit.
+    ensures limits { (t : Text) → Derives end spots.now t → Explains error.Memory result (λ u. u ≡ t) PassesLimit }
 {
     answer(alloc, spots, end)
 }

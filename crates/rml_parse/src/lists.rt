@@ -1,4 +1,5 @@
-//! Lists of one item, and of one before others.
+//! Lists of one item, and of one before others. They have room for their items and no more: a tree has many short lists, and
+//! room that nothing fills would be most of it.
 
 ghost use Rattle.std.specs.Prelude.{◌≡◌, [], ◌∷◌, IfOk};
 
@@ -8,7 +9,7 @@ use std::alloc::{AllocError, Global};
 pub(crate) fn alone<T: Drop>(alloc: Global, item: T) -> Result<Items<T>, AllocError>
     ensures { IfOk result (λ xs. xs ≡ item ∷ []) }
 {
-    let mut items = Items::new(alloc);
+    let mut items = Items::from_vec(Vec::with_capacity(alloc, 1)?);
     items.push(item)?;
     Ok(items)
 }
@@ -20,7 +21,9 @@ pub(crate) fn joined<T: Drop>(
 ) -> Result<Items<T>, AllocError>
     ensures { IfOk result (λ xs. xs ≡ first ∷ more) }
 {
-    let mut items = alone(alloc, first)?;
+    let room = more.len().saturating_add(1);
+    let mut items = Items::from_vec(Vec::with_capacity(alloc, room)?);
+    items.push(first)?;
     items.append(more)?;
     Ok(items)
 }

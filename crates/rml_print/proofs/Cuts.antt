@@ -13,12 +13,12 @@ use Rattle.rml_syntax.specs.declared.token.Token.{Token}
 use Rattle.rml_syntax.specs.declared.token.Token.TheVariants as token
 use Rattle.rml_lex.specs.declared.piece.Piece.{Piece}
 use Rattle.rml_lex.specs.declared.piece.Piece.TheVariants as piece
-use Rattle.rml_lex.specs.Machine.{Longest}
 use Rattle.rml_lex.specs.Places.{place_after, start}
 use Rattle.rml_lex.specs.Reading.{IsSound, Part, Reaches, Shown, behind, marks, shown, shown_token, tokens_of}
 use Rattle.rml_lex.specs.Spelling.{whole}
+use Rattle.rml_lex.specs.Spells.{IsLongest}
 use Rattle.rml_lex.proofs.Characters.{two-ways}
-use Rattle.rml_lex.proofs.Wholes.{spells-whole}
+use Rattle.rml_lex.proofs.Wholes.{longest-is, spells-whole}
 use Rattle.rml_print.specs.Lines.{Line, gap, is_tight, line_bytes, lines_bytes, spaced, spaced_after}
 use Rattle.rml_print.specs.Printable.{AreApartFrom, AreReadAs, ArePrintable, IsPrintable}
 use Rattle.rml_print.specs.Spelling.{spelling}
@@ -34,15 +34,15 @@ none-longer : (s rest : List ℕ) (k : ℕ) → IsBroken s rest → suc k ≤ le
 none-longer s [] k stops le = absurd (omega arith)
 none-longer s (b ∷ bs) k stops le = rw take-append-add (stops (take k bs))
 
-piece-longest : (s rest : List ℕ) (p : Piece) → whole s ≡ Some p → IsBroken s rest → Longest whole (s ++ rest) (length s) p
-piece-longest s rest p is stops = record {
+piece-longest : (s rest : List ℕ) (p : Piece) → whole s ≡ Some p → IsBroken s rest → IsLongest (s ++ rest) (length s) p
+piece-longest s rest p is stops = longest-is (s ++ rest) (length s) p (record {
   within = omega (arith, length-append s rest);
   spelled = rw take-append_seam is;
   longer = λ m lt le.
       let k = m - length s - 1 in
       let at : m ≡ length s + suc k = omega arith in
       rw at (none-longer s rest k stops (omega (arith, length-append s rest)));
-}
+})
 
 -- Pieces from some bytes to the rest, whose tokens, at whatever place they stand, are these.
 pub record Cut (names : List (List ℕ)) (bytes : List ℕ) (ts : List Token) (rest : List ℕ) : Type 0 where

@@ -1,5 +1,5 @@
 -- The tokens that some bytes spell can be printed.
-use Rattle.std.proofs.Common.{◌≡◌, ℕ, ◌<◌, ◌≤◌, List, [], ◌∷◌, ◌++◌, length, map, take, refl, sym, ap, ◌∙◌, arith, Some, None, inl, inr}
+use Rattle.std.proofs.Common.{◌≡◌, ℕ, ◌<◌, ◌≤◌, List, [], ◌∷◌, ◌++◌, length, map, take, refl, sym, ap, subst, ◌∙◌, arith, Some, None, inl, inr}
 use Rattle.std.specs.Prelude.{All, ◌==◌, ℤ}
 use Rattle.std.proofs.lemmas.List.Elements.{All-cons, All-nil, All-tail}
 use Rattle.std.proofs.Math.Seq.{take-append_seam}
@@ -11,13 +11,10 @@ use Rattle.rml_syntax.specs.declared.token.Token.TheVariants as token
 use Rattle.rml_lex.specs.declared.piece.Piece.{Piece}
 use Rattle.rml_lex.specs.declared.piece.Piece.TheVariants as piece
 use Rattle.rml_lex.specs.Character.{escape_value, unescaped}
-use Rattle.rml_lex.specs.Machine.{Longest}
 use Rattle.rml_lex.specs.Places.{place_after, start}
 use Rattle.rml_lex.specs.Reading.{Part, Reaches, Shown, Word, Name, TyVar, Int, Char, Text, Sign, Dashes, Spelled, marks, shown, shown_token, tokens_of}
-use Rattle.rml_lex.specs.Spelling.{whole}
-use Rattle.rml_lex.specs.Spells.{AreCharacters, Nothing, Then, IsCharacter, Itself, Escaped, ThreeDigits, Spells}
+use Rattle.rml_lex.specs.Spells.{AreCharacters, Nothing, Then, IsCharacter, Itself, Escaped, ThreeDigits, IsLongest, Spells}
 use Rattle.rml_lex.proofs.Characters.{text-value, two-ways}
-use Rattle.rml_lex.proofs.Wholes.{whole-spells}
 use Rattle.rml_print.specs.Printable.{IsPrintable}
 use Rattle.rml_print.specs.Spelling.{name_bytes}
 
@@ -120,8 +117,8 @@ token-of s piece.Dashes = OneToken (Dashes (length s)) refl
 token-of s (piece.Sign m) = OneToken (Sign m) refl
 token-of s (piece.Faulty k at) = NoToken refl
 
-part-spells : (bytes s more : List ℕ) (p : Piece) → bytes ≡ s ++ more → Longest whole bytes (length s) p → Spells s p
-part-spells bytes s more p e l = whole-spells s p (sym (ap (λ x. whole x) (ap (take (length s)) e ∙ take-append_seam s more)) ∙ l.spelled)
+part-spells : (bytes s more : List ℕ) (p : Piece) → bytes ≡ s ++ more → IsLongest bytes (length s) p → Spells s p
+part-spells bytes s more p e l = subst (λ (x : List ℕ). Spells x p) (ap (take (length s)) e ∙ take-append_seam s more) l.spelled
 
 module _ (names : List (List ℕ)) where
   -- each can be printed

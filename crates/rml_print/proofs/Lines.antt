@@ -1,7 +1,6 @@
 -- What is written is the definition of lines and their blanks.
-use Rattle.std.proofs.Common.{◌≡◌, ℕ, List, [], ◌∷◌, ◌++◌, replicate, Option, Some, None, refl, ap, sym, ◌∙◌}
+use Rattle.std.proofs.Common.{◌≡◌, ℕ, List, [], ◌∷◌, ◌++◌, replicate, Some, None, refl, ap, sym, ◌∙◌}
 use mathlib.Core.List.{append_assoc, append-nil}
-use Rattle.std.specs.List.{fold, flat_map}
 use Rattle.rml_syntax.specs.declared.token.Token.{Token}
 use Rattle.rml_print.specs.Spelling.{spelling}
 use Rattle.rml_print.specs.Lines.{Line, gap_before, spaced, spaced_after, line_bytes, lines_bytes}

@@ -1,5 +1,5 @@
 -- What is printed of a pattern is read as that pattern, in each seat.
-use Rattle.std.proofs.Common.{◌≡◌, ℕ, List, [], ◌∷◌, ◌++◌, map, refl, ap, sym, ◌∙◌, None}
+use Rattle.std.proofs.Common.{◌≡◌, ℕ, List, [], ◌∷◌, ◌++◌, map, refl, ap, sym, ◌∙◌}
 use Rattle.rml_base.specs.declared.place.Place.{Place}
 use Rattle.rml_syntax.specs.declared.token.Spot.{Spot}
 use Rattle.rml_syntax.specs.declared.token.Token.{Token}
@@ -11,9 +11,9 @@ use Rattle.rml_syntax.specs.declared.rules.Long.{Long}
 use Rattle.rml_syntax.specs.declared.rules.Pattern.{Pattern, fold-Pattern}
 use Rattle.rml_syntax.specs.declared.rules.Pattern.TheVariants as pat
 use Rattle.rml_grammar.specs.Tokens.{sign, Lacks, LacksWord}
+use Rattle.rml_grammar.specs.Lacks.{LacksBinder}
 use Rattle.rml_grammar.specs.SpelledNames.{IsLong}
 use Rattle.rml_grammar.specs.SpelledNames as long
-use Rattle.rml_grammar.specs.Patterns.{binder_at, binder_by}
 use Rattle.rml_grammar.specs.SpelledPatterns as s
 use Rattle.rml_grammar.specs.SpelledPatterns.{IsPat, IsPcons, IsPapps, IsPapp, IsPargs1, IsPatom, IsPatTuple, IsPatom1, IsPats, IsMorePats, IsPargs, IsPseq}
 use Rattle.rml_print.specs.declared.seats.Seat.TheVariants.{Free, Item, BehindAs, OnlyResult}
@@ -33,10 +33,10 @@ IsResult us t rest = IsPseq us (t ∷ []) rest
 
 -- a chain, or an item of one, that does not begin with a name and an `as`
 abbrev IsChain : List Spot → Pattern → List Spot → Type 0
-IsChain us t rest = IsPcons us t rest × (binder_at us ≡ None)
+IsChain us t rest = IsPcons us t rest × LacksBinder us
 
 abbrev IsItem : List Spot → Pattern → List Spot → Type 0
-IsItem us t rest = IsPapp us t rest × (binder_at us ≡ None)
+IsItem us t rest = IsPapp us t rest × LacksBinder us
 
 abbrev free_tokens : Pattern → List Token
 free_tokens t = pattern_tokens t Free
@@ -92,12 +92,12 @@ no-tuple t u k is has differs ts e =
 -- ---- one tree from what is printed of it
 
 -- a name that is no binder
-binder-long : {us rest : List Spot} {l : Long} → IsLong us l rest → LacksWord key.KAs rest → binder_at us ≡ None
-binder-long (long.alone {n} {p} e) w = ap (binder_by (n, p)) w
+binder-long : {us rest : List Spot} {l : Long} → IsLong us l rest → LacksWord key.KAs rest → LacksBinder us
+binder-long (long.alone e) w = w
 binder-long long.dotted w = refl
 
-binder-tuple : {us rest : List Spot} {ts : List Pattern} → IsPatTuple us ts rest → binder_at us ≡ None
-binder-tuple (s.two_pats a b c) = refl
+binder-tuple : {us rest : List Spot} {ts : List Pattern} → IsPatTuple us ts rest → LacksBinder us
+binder-tuple (s.two_pats a b c) = tt
 
 -- an item alone is a chain
 alone : {t : Pattern} {us rest : List Spot} → Closes rest → Again plain_pattern IsItem t us rest → Again plain_pattern IsChain t us rest
@@ -133,13 +133,13 @@ even t p e f b r none_such reads =
     }
 
 any-again : (us rest : List Spot) → Shows (token.Sign mark.Wild ∷ []) us rest → Stops rest → Again plain_pattern IsItem pat.Any us rest
-any-again _ _ (shown ended) c = record { tree = pat.Any; reads = (s.atom (s.simple s.any), refl); same = refl }
+any-again _ _ (shown ended) c = record { tree = pat.Any; reads = (s.atom (s.simple s.any), tt); same = refl }
 
 any-reads : PatternReads pat.Any
 any-reads = even pat.Any _ (fold.pattern-Any Printed pattern_at) refl refl refl (no-tuple pat.Any _ shape.Other (fold.pattern-Any Pattern plain_pattern_at) (fold.pattern-Any Shape pattern_shape_at) (λ e. cc)) any-again
 
 lit-again : (l : Lit) (us rest : List Spot) → Shows (token.Lit l ∷ []) us rest → Stops rest → Again plain_pattern IsItem (pat.Lit l) us rest
-lit-again l _ _ (shown ended) c = record { tree = pat.Lit l; reads = (s.atom (s.simple s.lit), refl); same = refl }
+lit-again l _ _ (shown ended) c = record { tree = pat.Lit l; reads = (s.atom (s.simple s.lit), tt); same = refl }
 
 lit-reads : (l : Lit) → PatternReads (pat.Lit l)
 lit-reads l = even (pat.Lit l) _ (fold.pattern-Lit Printed pattern_at l) refl refl refl (no-tuple (pat.Lit l) _ shape.Other (fold.pattern-Lit Pattern plain_pattern_at l) (fold.pattern-Lit Shape pattern_shape_at l) (λ e. cc)) (lit-again l)
@@ -196,7 +196,7 @@ bracket-alone a (s.two_pats b c d) = apart (pat-one a b).1
 in-brackets : {t : Pattern} {us rest : List Spot} {ts : List Token} → ((vs others : List Spot) → Shows ts vs others → Closes others → Again plain_pattern IsPat t vs others) → Closes rest → InRound ts us rest → Again plain_pattern IsResult t us rest
 in-brackets h c (in_round_brackets {q} {us} {rest} x) =
     let a = h us (sign mark.CloseRound q ∷ rest) x (encloses-round q rest).closes in
-    record { tree = a.tree; reads = s.one_pat (s.unbound refl (s.chain (s.atom (s.bracket a.reads)) (s.no_papp c.chain))) (λ ts tup. bracket-alone a.reads tup); same = a.same }
+    record { tree = a.tree; reads = s.one_pat (s.unbound tt (s.chain (s.atom (s.bracket a.reads)) (s.no_papp c.chain))) (λ ts tup. bracket-alone a.reads tup); same = a.same }
 
 tuple-reads : {t u : Pattern} {ts : List Pattern} → PatternReads t → PatternReads u → Each PatternReads ts → PatternReads (pat.Tuple (t ∷ u ∷ ts))
 tuple-reads {t} {u} {ts} r v rs =
@@ -219,12 +219,12 @@ list-by {t} {ts} r rs (in_square_brackets {q} {rest} x) =
     let f = pats-again r rs x (encloses-square q rest) in
     record {
       tree = pat.List (f.first.tree ∷ f.others.tree);
-      reads = (s.atom (s.simple (s.list (s.some_pats f.first.reads f.others.reads))), refl);
+      reads = (s.atom (s.simple (s.list (s.some_pats f.first.reads f.others.reads))), tt);
       same = same-List (f.first.tree ∷ f.others.tree) (t ∷ ts) (together f.first.same f.others.same);
     }
 
 list-again : (ts : List Pattern) → Each PatternReads ts → (us rest : List Spot) → Shows (in_square (listed mark.Comma Free (map pattern_tokens ts))) us rest → Stops rest → Again plain_pattern IsItem (pat.List ts) us rest
-list-again [] e _ _ (shown (shown ended)) c = record { tree = pat.List []; reads = (s.atom (s.simple s.no_list), refl); same = refl }
+list-again [] e _ _ (shown (shown ended)) c = record { tree = pat.List []; reads = (s.atom (s.simple s.no_list), tt); same = refl }
 list-again (t ∷ ts) (also r rs) us rest x c = list-by r rs (square-shown (listed mark.Comma Free (map pattern_tokens (t ∷ ts))) x)
 
 list-reads : (ts : List Pattern) → Each PatternReads ts → PatternReads (pat.List ts)
@@ -245,7 +245,7 @@ chain-again {t} {u} {ts} r v rs us rest x c =
 bracket-item : {t : Pattern} {us rest : List Spot} {ts : List Token} → ((vs others : List Spot) → Shows ts vs others → Closes others → Again plain_pattern IsPat t vs others) → InRound ts us rest → Again plain_pattern IsItem t us rest
 bracket-item h (in_round_brackets {q} {us} {rest} x) =
     let a = h us (sign mark.CloseRound q ∷ rest) x (encloses-round q rest).closes in
-    record { tree = a.tree; reads = (s.atom (s.bracket a.reads), refl); same = a.same }
+    record { tree = a.tree; reads = (s.atom (s.bracket a.reads), tt); same = a.same }
 
 chain-reads : {t u : Pattern} {ts : List Pattern} → PatternReads t → PatternReads u → Each PatternReads ts → PatternReads (pat.Cons (t ∷ u ∷ ts))
 chain-reads {t} {u} {ts} r v rs =

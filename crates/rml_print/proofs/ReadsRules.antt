@@ -1,5 +1,5 @@
 -- What is printed of a rule is read as that rule.
-use Rattle.std.proofs.Common.{◌≡◌, ℕ, ◌-◌, List, [], ◌∷◌, ◌++◌, length, map, refl, ap, ◌∙◌, None}
+use Rattle.std.proofs.Common.{◌≡◌, ℕ, ◌-◌, List, [], ◌∷◌, ◌++◌, length, map, refl, ap, ◌∙◌}
 use Rattle.std.specs.List.{flat_map}
 use Rattle.std.proofs.lemmas.List.Concat.{flat_map-append}
 use mathlib.Core.List.{append-nil}
@@ -13,7 +13,8 @@ use Rattle.rml_syntax.specs.declared.rules.Exp.{Exp}
 use Rattle.rml_syntax.specs.declared.rules.Goal.{Goal}
 use Rattle.rml_syntax.specs.declared.rules.Rule.{Rule}
 use Rattle.rml_grammar.specs.Tokens.{word, dashes, Lacks, LacksWord}
-use Rattle.rml_grammar.specs.Texts.{clause_next, uses_next, Head, rule_of}
+use Rattle.rml_grammar.specs.Lacks.{LacksClause, LacksUses}
+use Rattle.rml_grammar.specs.Texts.{Head, rule_of}
 use Rattle.rml_grammar.specs.SpelledGoals.{some_goals}
 use Rattle.rml_grammar.specs.SpelledTexts as s
 use Rattle.rml_grammar.specs.SpelledTexts.{IsRuleResults, IsHead, IsClause, IsMoreClauses}
@@ -37,7 +38,7 @@ pub record LineEnds (us : List Spot) : Type 0 where
   pub bar : Lacks mark.Bar us
   pub conjunction : LacksWord key.KAnd us
   pub parts : LacksWord key.KOf us
-  pub uses : uses_next us ≡ None
+  pub uses : LacksUses us
 
 -- the tokens of lines
 abbrev pub line_tokens : List Line → List Token
@@ -150,7 +151,7 @@ rule-starts (g ∷ gs) r ts _ _ (shown {p} {us = vs} x) = line-rule p vs
 -- what stands behind the last rule
 pub record RulesEnd (us : List Spot) : Type 0 where
   pub line : LineEnds us
-  pub none_next : clause_next us ≡ None
+  pub none_next : LacksClause us
 
 pub clauses-again : {r : Rule} {rs : List Rule} {us rest : List Spot} → RuleReads r → Each RuleReads rs → Shows (flat_map rule_tokens (r ∷ rs)) us rest → RulesEnd rest → First plain_rule IsClause IsMoreClauses r rs us rest
 clauses-again {r} {rs} a others x e =

@@ -1,5 +1,5 @@
 -- What is printed of a text is read as that text.
-use Rattle.std.proofs.Common.{◌≡◌, ℕ, List, [], ◌∷◌, ◌++◌, map, refl, ap, sym, ◌∙◌, None}
+use Rattle.std.proofs.Common.{◌≡◌, ℕ, List, [], ◌∷◌, ◌++◌, map, refl, ap, sym, ◌∙◌}
 use Rattle.std.specs.List.{flat_map}
 use mathlib.Core.List.{append_assoc}
 use Rattle.rml_base.specs.declared.place.Place.{Place}
@@ -13,7 +13,7 @@ use Rattle.rml_syntax.specs.declared.texts.Uses.{Uses}
 use Rattle.rml_syntax.specs.declared.texts.Decl.{Decl}
 use Rattle.rml_syntax.specs.declared.texts.Text.{Text}
 use Rattle.rml_grammar.specs.Tokens.{word, named, sign}
-use Rattle.rml_grammar.specs.Texts.{uses_next, spec_next, decl_next}
+use Rattle.rml_grammar.specs.Lacks.{LacksDecl, LacksSpec, LacksUses}
 use Rattle.rml_grammar.specs.SpelledTexts as s
 use Rattle.rml_grammar.specs.SpelledTexts.{IsUses, IsSpec, IsSpecs, IsDecl, IsDecls, Derives}
 use Rattle.rml_grammar.proofs.LimitsLaws.{one-tree}
@@ -30,7 +30,7 @@ use Rattle.rml_print.proofs.ReadsDeclarations.{spec_tokens, decl_tokens, SpecRea
 abbrev uses_tokens : Uses → List Token
 uses_tokens u = token.Word key.KWith ∷ token.Lit (lit.Text u.file) ∷ []
 
-uses-again : (fs : List Uses) {us rest : List Spot} → Shows (flat_map uses_tokens fs) us rest → uses_next rest ≡ None → Again (map plain_uses) IsUses fs us rest
+uses-again : (fs : List Uses) {us rest : List Spot} → Shows (flat_map uses_tokens fs) us rest → LacksUses rest → Again (map plain_uses) IsUses fs us rest
 uses-again [] ended h = record { tree = []; reads = s.no_uses h; same = refl }
 uses-again (f ∷ fs) (shown {p} (shown x)) h =
     let a = uses-again fs x h in
@@ -40,11 +40,11 @@ uses-again (f ∷ fs) (shown {p} (shown x)) h =
 
 record SpecsEnd (us : List Spot) : Type 0 where
   pub line : LineEnds us
-  pub none_next : spec_next us ≡ None
+  pub none_next : LacksSpec us
 
 record DeclsEnd (us : List Spot) : Type 0 where
   pub line : LineEnds us
-  pub none_next : decl_next us ≡ None
+  pub none_next : LacksDecl us
 
 specs-again : (ds : List Decl) {us rest : List Spot} → Each SpecReads ds → Shows (flat_map spec_tokens ds) us rest → SpecsEnd rest → Again (map plain_decl) IsSpecs ds us rest
 specs-again ds rs x e =

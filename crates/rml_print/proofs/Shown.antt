@@ -10,7 +10,7 @@ use Rattle.rml_syntax.specs.declared.token.Mark.{Mark}
 use Rattle.rml_syntax.specs.declared.token.Mark.TheVariants as mark
 use Rattle.rml_syntax.specs.declared.rules.Long.{Long}
 use Rattle.rml_grammar.specs.Tokens.{sign, Lacks, LacksWord, front_of}
-use Rattle.rml_grammar.specs.Types.{name_next}
+use Rattle.rml_grammar.specs.Lacks.{LacksName}
 use Rattle.rml_grammar.specs.SpelledNames.{IsLong, alone, dotted}
 use Rattle.rml_grammar.specs.SpelledPatterns.{pargs_begin}
 use Rattle.rml_grammar.specs.SpelledExpressions.{eargs_begin}
@@ -75,7 +75,7 @@ pub record Stops (us : List Spot) : Type 0 where
   pub dot : Lacks mark.Dot us
   pub pargument : pargs_begin (front_of us) ≡ false
   pub eargument : eargs_begin (front_of us) ≡ false
-  pub name : name_next us ≡ None
+  pub name : LacksName us
   pub binder : LacksWord key.KAs us
 
 -- nor what goes on with a chain or a product
@@ -84,7 +84,7 @@ pub record Closes (us : List Spot) : Type 0 where
   pub chain : Lacks mark.TwoColons us
   pub factor : Lacks mark.Star us
 
-pub closing : (us : List Spot) → Lacks mark.Dot us → pargs_begin (front_of us) ≡ false → eargs_begin (front_of us) ≡ false → name_next us ≡ None → LacksWord key.KAs us → Lacks mark.TwoColons us → Lacks mark.Star us → Closes us
+pub closing : (us : List Spot) → Lacks mark.Dot us → pargs_begin (front_of us) ≡ false → eargs_begin (front_of us) ≡ false → LacksName us → LacksWord key.KAs us → Lacks mark.TwoColons us → Lacks mark.Star us → Closes us
 closing us a b c d e f g = record { stops = record { dot = a; pargument = b; eargument = c; name = d; binder = e }; chain = f; factor = g }
 
 -- nor a further item of a list in brackets

@@ -1,5 +1,5 @@
 -- Patterns as tokens.
-use Rattle.std.specs.Prelude.{ℕ, List, [], ◌∷◌, ◌++◌}
+use Rattle.std.specs.Prelude.{List, [], ◌∷◌, ◌++◌}
 use Rattle.rml_syntax.specs.declared.token.Token.{Token}
 use Rattle.rml_syntax.specs.declared.token.Token.TheVariants as token
 use Rattle.rml_syntax.specs.declared.token.Key.TheVariants as key

@@ -7,7 +7,7 @@ use Rattle.rml_syntax.specs.declared.rules.Pattern.TheOpen.{Pattern-F}
 use Rattle.rml_syntax.specs.declared.rules.Exp.{Exp, out-Exp}
 use Rattle.rml_syntax.specs.declared.rules.Exp.TheOpen.{Exp-F}
 use Rattle.rml_print.specs.declared.seats.Seat.{Seat}
-use Rattle.rml_print.specs.declared.seats.Seat.TheVariants.{Free, Item, BehindAs, OnlyResult, Factor, OnlyArgument}
+use Rattle.rml_print.specs.declared.seats.Seat.TheVariants.{Item, BehindAs, OnlyResult, Factor, OnlyArgument}
 use Rattle.rml_print.specs.declared.seats.Shape.{Shape}
 use Rattle.rml_print.specs.declared.seats.Shape.TheVariants.{Chain, Binding, Tuple, Named, Other}
 

@@ -1,5 +1,5 @@
 -- Types and signatures as tokens.
-use Rattle.std.specs.Prelude.{ℕ, List, [], ◌∷◌, ◌++◌}
+use Rattle.std.specs.Prelude.{List, [], ◌∷◌, ◌++◌}
 use Rattle.std.specs.List.{flat_map}
 use Rattle.rml_syntax.specs.declared.token.Token.{Token}
 use Rattle.rml_syntax.specs.declared.token.Token.TheVariants as token

@@ -9,7 +9,7 @@
 mod declarations;
 mod expressions;
 mod goals;
-mod laws;
+pub mod laws;
 mod listing;
 mod page;
 mod patterns;
@@ -22,8 +22,5 @@ mod tests;
 mod texts;
 mod types;
 
-pub use laws::{
-    printed_is_read, printed_texts_are_read, printed_tokens_derive, texts_are_printable,
-};
 pub use listing::print_tokens;
 pub use printed::{print_sig, print_tree};

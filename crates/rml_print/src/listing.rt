@@ -5,6 +5,7 @@ ghost use Rattle.std.specs.Fmt.{decimal};
 ghost use Rattle.std.specs.Prelude.{◌≡◌, ◌++◌, IfOk, OnOk};
 
 use crate::spelling::write_token;
+use itoa::Buffer;
 use rml_base::{Memory, Names};
 use rml_syntax::{Lit, Spot, Token};
 use std::alloc::Global;
@@ -24,35 +25,35 @@ fn kind_name(token: Token) -> &'static [u8]
     }
 }
 
-fn write_number(alloc: Global, out: &mut Vec<u8>, number: u32) -> Result<(), Memory>
+fn write_number(out: &mut Vec<u8>, number: u32) -> Result<(), Memory>
     ensures { OnOk result (out.new.items ≡ out.old.items ++ decimal number) }
 {
-    let digits = number.to_string(alloc)?;
-    out.extend_from_slice(digits.as_bytes())?;
+    let mut digits = Buffer::new();
+    out.extend_from_slice(digits.format(number).as_bytes())?;
     Ok(())
 }
 
-fn write_spot(alloc: Global, out: &mut Vec<u8>, names: &Names, spot: &Spot) -> Result<(), Memory>
+fn write_spot(out: &mut Vec<u8>, names: &Names, spot: &Spot) -> Result<(), Memory>
     ensures { OnOk result (out.new.items ≡ out.old.items ++ spot_line names.now spot.now) }
 {
-    write_number(alloc, out, spot.place.line)?;
+    write_number(out, spot.place.line)?;
     out.push(b':')?;
-    write_number(alloc, out, spot.place.column)?;
+    write_number(out, spot.place.column)?;
     out.push(b' ')?;
     out.extend_from_slice(kind_name(spot.token))?;
     out.push(b' ')?;
-    write_token(alloc, out, names, spot.token)?;
+    write_token(out, names, spot.token)?;
     out.push(b'\n')?;
     Ok(())
 }
 
-/// The lines `LINE:COLUMN KIND SPELLING`, one for each token.
+/// The lines `LINE:COLUMN KIND SPELLING`, one for each token. Only the bytes that it answers take memory.
 pub fn print_tokens(alloc: Global, spots: &[Spot], names: &Names) -> Result<Vec<u8>, Memory>
     ensures { IfOk result (λ v. v.items ≡ listing names.now spots.now) }
 {
     let mut out = Vec::new(alloc);
     for spot in spots {
-        write_spot(alloc, &mut out, names, spot)?;
+        write_spot(&mut out, names, spot)?;
     }
     Ok(out)
 }

@@ -15,7 +15,6 @@ use std::marker::Model;
 /// The bytes so far, and the last token of the line that is being written.
 #[derive(Drop)]
 pub struct Page<'a> {
-    alloc: Global,
     names: &'a Names,
     out: Vec<u8>,
     last: Option<Token>,
@@ -61,7 +60,6 @@ impl<'a> Page<'a> {
         ensures { result ≡ record { names = names.now; out = []; last = None } }
     {
         Page {
-            alloc,
             names,
             out: Vec::new(alloc),
             last: None,
@@ -77,7 +75,7 @@ impl<'a> Page<'a> {
         {
             self.out.push(b' ')?;
         }
-        write_token(self.alloc, &mut self.out, self.names, token)?;
+        write_token(&mut self.out, self.names, token)?;
         self.last = Some(token);
         Ok(())
     }
@@ -145,7 +143,6 @@ impl<'a> Page<'a> {
         ensures { result.items ≡ self.entry.out }
     {
         let Page {
-            alloc: _,
             names: _,
             out,
             last: _,

@@ -6,10 +6,10 @@ ghost use Rattle.std.specs.Fmt.{signed_decimal};
 ghost use Rattle.std.specs.List.{flat_map};
 ghost use Rattle.std.specs.Prelude.{◌≡◌, ◌++◌, OnOk, replicate};
 
+use itoa::Buffer;
 use rml_base::{Memory, Names};
 use rml_lex::word_spelling;
 use rml_syntax::{Lit, Mark, Token};
-use std::alloc::Global;
 
 fn sign_spelling(sign: Mark) -> &'static [u8]
     ensures { result.now ≡ sign_spelling sign }
@@ -74,18 +74,13 @@ fn write_quoted(out: &mut Vec<u8>, bytes: &[u8]) -> Result<(), Memory>
     Ok(())
 }
 
-fn write_literal(
-    alloc: Global,
-    out: &mut Vec<u8>,
-    names: &Names,
-    literal: Lit,
-) -> Result<(), Memory>
+fn write_literal(out: &mut Vec<u8>, names: &Names, literal: Lit) -> Result<(), Memory>
     ensures { OnOk result (out.new.items ≡ out.old.items ++ literal_spelling names.now literal) }
 {
     match literal {
         Lit::Int(value) => {
-            let digits = value.to_string(alloc)?;
-            out.extend_from_slice(digits.as_bytes())?;
+            let mut digits = Buffer::new();
+            out.extend_from_slice(digits.format(value).as_bytes())?;
             Ok(())
         }
         Lit::Char(byte) => {
@@ -107,18 +102,13 @@ pub fn write_repeated(out: &mut Vec<u8>, count: u32, byte: u8) -> Result<(), Mem
 }
 
 /// Writes the spelling of a token behind what is there.
-pub fn write_token(
-    alloc: Global,
-    out: &mut Vec<u8>,
-    names: &Names,
-    token: Token,
-) -> Result<(), Memory>
+pub fn write_token(out: &mut Vec<u8>, names: &Names, token: Token) -> Result<(), Memory>
     ensures { OnOk result (out.new.items ≡ out.old.items ++ spelling names.now token) }
 {
     match token {
         Token::Word(key) => out.extend_from_slice(word_spelling(key))?,
         Token::Name(name) | Token::TyVar(name) => out.extend_from_slice(name_bytes(names, name))?,
-        Token::Lit(literal) => write_literal(alloc, out, names, literal)?,
+        Token::Lit(literal) => write_literal(out, names, literal)?,
         Token::Sign(sign) => out.extend_from_slice(sign_spelling(sign))?,
         Token::Dashes(count) => write_repeated(out, count, b'-')?,
     }

@@ -1,8 +1,7 @@
 -- What the lexer and the parser answer, as an answer for a text; and that it is the only one.
-use Rattle.std.proofs.Common.{◌≡◌, ℕ, ◌-◌, List, [], sym, ap, ◌∙◌, Result, Vec}
+use Rattle.std.proofs.Common.{◌≡◌, ℕ, List, [], sym, ap, ◌∙◌, Result, Vec}
 use Rattle.std.specs.declared.alloc.Global.{Global}
 use Rattle.rml_base.specs.Answers.{Explains, Gives, Refuses}
-use Rattle.rml_base.specs.declared.limits.TheConstants.{NESTING, RULES}
 use Rattle.rml_syntax.specs.declared.token.Spot.{Spot}
 use Rattle.rml_syntax.specs.declared.texts.Text.{Text}
 use Rattle.rml_lex.specs.Numbered.{IsNumbered}
@@ -10,8 +9,7 @@ use Rattle.rml_lex.specs.Reading.{IsFault, Shown, Spelled, shown}
 use Rattle.rml_lex.specs.declared.tokens.LexErr.{LexErr}
 use Rattle.rml_lex.specs.declared.tokens.LexErr.TheVariants as lex_error
 use Rattle.rml_base.specs.declared.place.Place.{Place}
-use Rattle.rml_grammar.specs.Texts.{whole_text}
-use Rattle.rml_parse.specs.Answers.{IsFaultOf}
+use Rattle.rml_parse.specs.Faults.{IsFault as IsFaultOfTokens}
 use Rattle.rml_parse.specs.declared.answer.ParseErr.{ParseErr}
 use Rattle.rml_parse.specs.declared.answer.ParseErr.TheVariants as parse_error
 use Rattle.rml_print.specs.Listing.{listing}
@@ -24,7 +22,6 @@ use Rattle.rml_stages.specs.Shown.{ShowsTokens, ShowsTree}
 use Rattle.rml_stages.proofs.Causes.{gives, refuses}
 use Rattle.rml_stages.proofs.OneReading.{not-both, one-refusal, one-text, same-spots}
 use Rattle.rml_stages.proofs.OneReadingOfAll.{not-both-of-all, one-first-refusal, one-list-of-trees}
-use Rattle.rml_stages.proofs.Stops.{stops-at}
 
 module _ (number : ℕ) (bytes : List ℕ) (old : List (List ℕ)) where
   pub spelled-as : (spots : List Spot) (new : List (List ℕ)) → Spelled number bytes (shown new spots) → ((s : List (Place × Shown)) → Spelled number bytes s → IsNumbered old s spots new) → IsSpelledAs number bytes old spots new
@@ -35,8 +32,8 @@ module _ (number : ℕ) (bytes : List ℕ) (old : List (List ℕ)) where
   lexer-refuses lex_error.Memory r f is some = absurd (some is)
 
   pub parser-refuses : (spots : List Spot) (new : List (List ℕ)) (e : ParseErr) (r : Refusal) → IsSpelledAs number bytes old spots new
-      → ((e ≡ parse_error.Memory → ⊥) → IsFaultOf (end_of number bytes) spots (whole_text (end_of number bytes) NESTING (RULES - 1) spots) e) → r ≡ of_parser e → (r ≡ refusal.Memory → ⊥) → IsRefused number bytes old r
-  parser-refuses spots new (parse_error.At p k) r s h is some = let says = h (λ m. cc) in is_underived spots new p k s (stops-at (end_of number bytes) spots says.0 p k says.1 says.2 says.3) is
+      → ((e ≡ parse_error.Memory → ⊥) → IsFaultOfTokens (end_of number bytes) spots e) → r ≡ of_parser e → (r ≡ refusal.Memory → ⊥) → IsRefused number bytes old r
+  parser-refuses spots new (parse_error.At p k) r s h is some = is_underived spots new p k s (h (λ m. cc)) is
   parser-refuses spots new parse_error.Memory r s h is some = absurd (some is)
 
   pub gives-text : (answer : Result Text Refusal) (new : List (List ℕ)) → Explains refusal.Memory answer (λ t. IsRead number bytes old t new) (IsRefused number bytes old) → (t : Text) (now : List (List ℕ)) → IsRead number bytes old t now → Gives refusal.Memory answer (λ u. (u ≡ t) × (new ≡ now))

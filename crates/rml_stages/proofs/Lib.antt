@@ -1,5 +1,3 @@
-pub mod Stops
-pub mod FewTokens
 pub mod OneReading
 pub mod OneReadingOfAll
 pub mod Causes

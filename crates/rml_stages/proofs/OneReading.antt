@@ -11,18 +11,17 @@ use Rattle.rml_lex.specs.Places.{start}
 use Rattle.rml_lex.proofs.Decided.{is-read}
 use Rattle.rml_lex.proofs.Unique.{one-list, same-fault, unspelled}
 use Rattle.rml_grammar.specs.declared.fault.Fault.{Fault}
-use Rattle.rml_grammar.specs.declared.fault.ParseKind.{ParseKind}
 use Rattle.rml_grammar.specs.Texts.{whole_text}
 use Rattle.rml_grammar.specs.SpelledTexts.{Derives}
-use Rattle.rml_grammar.specs.Limits.{WithinLimits}
-use Rattle.rml_grammar.proofs.LimitsLaws.{one-tree, within-read}
+use Rattle.rml_grammar.proofs.LimitsLaws.{one-tree}
 use Rattle.rml_grammar.proofs.LimitsTexts.{text-within}
 use Rattle.rml_grammar.proofs.Places.{sound}
 use Rattle.rml_parse.specs.Answers.{place_left}
+use Rattle.rml_parse.specs.Faults.{StopsAt}
+use Rattle.rml_parse.proofs.Stops.{not-both as not-tree-and-stop, one-stop, stops-at}
 use Rattle.rml_stages.specs.declared.refusal.Refusal.{Refusal}
 use Rattle.rml_stages.specs.Refusals.{misspelled, underived}
-use Rattle.rml_stages.specs.Reading.{IsRead, IsRefused, IsSpelledAs, StopsAt, end_of, is_misspelled, is_underived}
-use Rattle.rml_stages.proofs.Stops.{stops-at}
+use Rattle.rml_stages.specs.Reading.{IsRead, IsRefused, IsSpelledAs, end_of, is_misspelled, is_underived}
 
 module _ (number : ℕ) (bytes : List ℕ) (old : List (List ℕ)) where
   pub same-spots : (s u : List Spot) (a b : List (List ℕ)) → IsSpelledAs number bytes old s a → IsSpelledAs number bytes old u b → (s ≡ u) × (a ≡ b)
@@ -32,29 +31,17 @@ module _ (number : ℕ) (bytes : List ℕ) (old : List (List ℕ)) where
       let spots : s ≡ u = h.numbered.tokens ∙ ap (spots_in a) e ∙ ap (λ n. spots_in n k.shown) names ∙ sym k.numbered.tokens in
       (spots, names)
 
-  -- where the tokens derive a tree within the limits, reading them does not stop
-  no-stop-at : (end : Place) (us : List Spot) (t : Text) (p : Place) (k : ParseKind) → Derives end us t → WithinLimits NESTING RULES us → StopsAt end us p k → ⊥
-  no-stop-at end us t p k d w s = let ok = within-read end NESTING (RULES - 1) us t (lit< tt) w d in let err = s.reading in absurd (cc (ok, err))
-
   pub one-text : (t u : Text) (a b : List (List ℕ)) → IsRead number bytes old t a → IsRead number bytes old u b → (t ≡ u) × (a ≡ b)
   one-text t u a b (s, h) (v, k) =
       let e = same-spots s v a b h.spelled k.spelled in
-      let d : Derives (end_of number bytes) s u = subst (λ (x : List Spot). Derives (end_of number bytes) x u) (sym e.0) k.derived in
-      (one-tree (end_of number bytes) s t u h.derived d, e.1)
+      let d : Derives (end_of number bytes) s u = subst (λ (x : List Spot). Derives (end_of number bytes) x u) (sym e.0) k.is_tree.derived in
+      (one-tree (end_of number bytes) s t u h.is_tree.derived d, e.1)
 
   pub not-both : (t : Text) (new : List (List ℕ)) (r : Refusal) → IsRead number bytes old t new → IsRefused number bytes old r → ⊥
   not-both t new r (s, h) (is_misspelled p k f e) = unspelled number bytes h.spelled.shown p k h.spelled.spelled f
   not-both t new r (s, h) (is_underived v b p k sp stop e) =
       let same = same-spots v s b new sp h.spelled in
-      no-stop-at (end_of number bytes) s t p k h.derived h.within (subst (λ (x : List Spot). StopsAt (end_of number bytes) x p k) same.0 stop)
-
-  one-stop : (us : List Spot) (p q : Place) (j k : ParseKind) → StopsAt (end_of number bytes) us p j → StopsAt (end_of number bytes) us q k → (p ≡ q) × (j ≡ k)
-  one-stop us p q j k a b =
-      let e = sym a.reading ∙ b.reading in
-      let same : ◌≡◌ {A = Fault} (record { kind = j; left = a.left }) (record { kind = k; left = b.left }) = cc e in
-      let left : a.left ≡ b.left = ap (λ (f : Fault). f.left) same in
-      let kind : j ≡ k = ap (λ (f : Fault). f.kind) same in
-      (a.place_is ∙ ap (λ l. place_left (end_of number bytes) l us) left ∙ sym b.place_is, kind)
+      not-tree-and-stop (end_of number bytes) s t p k h.is_tree (subst (λ (x : List Spot). StopsAt (end_of number bytes) x p k) same.0 stop)
 
   pub one-refusal : (q r : Refusal) → IsRefused number bytes old q → IsRefused number bytes old r → q ≡ r
   one-refusal q r (is_misspelled p j f d) (is_misspelled o k g e) =
@@ -64,7 +51,7 @@ module _ (number : ℕ) (bytes : List ℕ) (old : List (List ℕ)) where
   one-refusal q r (is_underived v b o k sp stop e) (is_misspelled p j f d) = absurd (unspelled number bytes sp.shown p j sp.spelled f)
   one-refusal q r (is_underived u a p j sp stop d) (is_underived v b o k sq halt e) =
       let spots = same-spots v u b a sq sp in
-      let same = one-stop u p o j k stop (subst (λ (x : List Spot). StopsAt (end_of number bytes) x o k) spots.0 halt) in
+      let same = one-stop (end_of number bytes) u p o j k stop (subst (λ (x : List Spot). StopsAt (end_of number bytes) x o k) spots.0 halt) in
       d ∙ (rw (same.0, same.1) (sym e))
 
   Either : Type 0
@@ -72,10 +59,10 @@ module _ (number : ℕ) (bytes : List ℕ) (old : List (List ℕ)) where
 
   by-tokens : (spots : List Spot) (new : List (List ℕ)) → IsSpelledAs number bytes old spots new → (r : Result Text Fault) → whole_text (end_of number bytes) NESTING (RULES - 1) spots ≡ r → Either
   unfolding Either
-  by-tokens spots new sp (Ok t) e = inl (t, new, (spots, record { spelled = sp; derived = sound (end_of number bytes) NESTING (RULES - 1) spots t e; within = text-within (end_of number bytes) NESTING (RULES - 1) spots t (lit< tt) e }))
+  by-tokens spots new sp (Ok t) e = inl (t, new, (spots, record { spelled = sp; is_tree = record { derived = sound (end_of number bytes) NESTING (RULES - 1) spots t e; within = text-within (end_of number bytes) NESTING (RULES - 1) spots t (lit< tt) e } }))
   by-tokens spots new sp (Err f) e =
       let p : Place = place_left (end_of number bytes) f.left spots in
-      inr (underived p f.kind, is_underived spots new p f.kind sp (stops-at (end_of number bytes) spots f p f.kind e refl refl) refl)
+      inr (underived p f.kind, is_underived spots new p f.kind sp (stops-at (end_of number bytes) spots f e p f.kind refl refl) refl)
 
   by-bytes : (((spots : List (Place × Shown)) × Spelled number bytes spots) ⊎ ((place : Place) × (kind : LexKind) × FirstFault number bytes place kind)) → Either
   unfolding Either

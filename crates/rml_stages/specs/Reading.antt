@@ -1,7 +1,6 @@
 -- What texts are read as, and why they are refused. A text is its bytes. It has a number, for its places, and is read over the
 -- names that were known before it.
-use Rattle.std.specs.Prelude.{◌≡◌, ℕ, suc, ◌+◌, ◌-◌, List, [], ◌∷◌, ◌++◌, length, Err}
-use Rattle.rml_base.specs.declared.limits.TheConstants.{NESTING, RULES}
+use Rattle.std.specs.Prelude.{◌≡◌, ℕ, suc, ◌+◌, List, [], ◌∷◌, ◌++◌, length}
 use Rattle.rml_base.specs.declared.place.Place.{Place}
 use Rattle.rml_syntax.specs.declared.token.Spot.{Spot}
 use Rattle.rml_syntax.specs.declared.texts.Text.{Text}
@@ -10,11 +9,7 @@ use Rattle.rml_lex.specs.Numbered.{IsNumbered}
 use Rattle.rml_lex.specs.Places.{place_after, start}
 use Rattle.rml_lex.specs.Reading.{FirstFault, Shown, Spelled}
 use Rattle.rml_grammar.specs.declared.fault.ParseKind.{ParseKind}
-use Rattle.rml_grammar.specs.declared.fault.ParseKind.TheVariants as syntactic
-use Rattle.rml_grammar.specs.Limits.{StandsAt, WithinLimits}
-use Rattle.rml_grammar.specs.SpelledTexts.{Derives}
-use Rattle.rml_grammar.specs.Texts.{whole_text}
-use Rattle.rml_parse.specs.Answers.{IsUnexpectedAt, place_left}
+use Rattle.rml_parse.specs.Faults.{IsTree, StopsAt}
 use Rattle.rml_stages.specs.declared.refusal.Refusal.{Refusal}
 use Rattle.rml_stages.specs.Refusals.{misspelled, underived}
 
@@ -31,20 +26,10 @@ pub record IsSpelledAs (number : ℕ) (bytes : List ℕ) (old : List (List ℕ))
 -- the bytes spell these tokens, the tree derives from them, and no bracket and no rule among them is one too many
 pub record IsReadAs (number : ℕ) (bytes : List ℕ) (old : List (List ℕ)) (spots : List Spot) (tree : Text) (new : List (List ℕ)) : Type 0 where
   pub spelled : IsSpelledAs number bytes old spots new
-  pub derived : Derives (end_of number bytes) spots tree
-  pub within : WithinLimits NESTING RULES spots
+  pub is_tree : IsTree (end_of number bytes) spots tree
 
 abbrev pub IsRead : ℕ → List ℕ → List (List ℕ) → Text → List (List ℕ) → Type 0
 IsRead number bytes old tree new = (spots : List Spot) × IsReadAs number bytes old spots tree new
-
--- Reading the tokens stops at this place, for this kind of fault. No bracket and no rule before it is one too many; the one at a
--- fault that names a limit is the first that is; and an unexpected token is one such that no text begins with those up to it.
-pub record StopsAt (end : Place) (spots : List Spot) (place : Place) (kind : ParseKind) : Type 0 where
-  pub left : ℕ
-  pub reading : whole_text end NESTING (RULES - 1) spots ≡ Err (record { kind = kind; left = left })
-  pub place_is : place ≡ place_left end left spots
-  pub limits : StandsAt NESTING RULES spots (record { kind = kind; left = left })
-  pub unexpected : kind ≡ syntactic.Unexpected → IsUnexpectedAt end spots place left
 
 -- the bytes have a first lexical fault; or they spell tokens, and reading these stops
 pub data IsRefused (number : ℕ) (bytes : List ℕ) (old : List (List ℕ)) (r : Refusal) : Type 0 where

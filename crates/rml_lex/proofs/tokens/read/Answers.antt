@@ -1,6 +1,5 @@
 use Rattle.std.proofs.Common.{arith, ◌≡◌, ◌++◌, append-nil, length, refl}
-use Rattle.rml_lex.specs.Machine.{Longest}
-use Rattle.rml_lex.specs.Spelling.{whole}
+use Rattle.rml_lex.specs.Spells.{IsLongest}
 use Rattle.rml_lex.proofs.SoFar.{reads-more, sound, spots_at, no_spot, longest-pos, more_names, numbers-more, shown-more}
 use Rattle.rml_lex.proofs.tokens.read.Goals as goal
 use Rattle.rml_lex.proofs.tokens.read.Goals.{in-Some-2+in_ok-push, in_default-2}
@@ -13,7 +12,7 @@ spots_are c = elim c.match-branch-2.branch [
 
 pub loop-rest-preserved : goal.loop-rest-preserved
 loop-rest-preserved c =
-    let l : Longest whole c.loop-rest.rest.now (length c.split_at.result.0.now) c.in-Some.piece = rw c.split_at.ensures.front_len c.in-Some.ensures in
+    let l : IsLongest c.loop-rest.rest.now (length c.split_at.result.0.now) c.in-Some.piece = rw c.split_at.ensures.front_len c.in-Some.ensures in
     record {
       read = reads-more c.args.text c.args.bytes.now c.args.names.now c.loop-rest.rest.now c.loop-rest.place c.loop-rest.spots.items c.loop-rest.names
           c.split_at.result.0.now c.split_at.result.1.now c.in-Some.piece c.in_ok-token.field-0 c.further-place.result c.match-branch-2.spots.items c.token_of.new.names

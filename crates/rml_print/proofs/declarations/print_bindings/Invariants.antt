@@ -1,4 +1,4 @@
-use Rattle.std.proofs.Common.{[], ◌∷◌, map, drop}
+use Rattle.std.proofs.Common.{map, drop}
 use Rattle.rml_syntax.specs.declared.token.Token.TheVariants as token
 use Rattle.rml_syntax.specs.declared.token.Key.TheVariants as key
 use Rattle.rml_print.specs.Texts.{binding_tokens}

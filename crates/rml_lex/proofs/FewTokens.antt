@@ -6,7 +6,12 @@ use Rattle.rml_base.specs.declared.place.Place.{Place}
 use Rattle.rml_syntax.specs.declared.token.Spot.{Spot}
 use Rattle.rml_lex.specs.declared.piece.Piece.TheVariants as piece
 use Rattle.rml_lex.specs.Places.{place_after, start}
-use Rattle.rml_lex.specs.Reading.{Part, Reaches, Shown, Spelled, marks, shown, shown_token, tokens_of}
+use Rattle.rml_lex.specs.Reading.{IsFault, Part, Reaches, Shown, Spelled, marks, shown, shown_token, tokens_of}
+use Rattle.rml_lex.specs.declared.tokens.LexErr.{LexErr}
+use Rattle.rml_lex.specs.declared.tokens.LexErr.TheVariants as error
+use Rattle.rml_base.specs.Answers.{Explains}
+use Rattle.std.specs.Prelude.{Result, Ok, Err, Vec, IfOk}
+use Rattle.std.specs.declared.alloc.Global.{Global}
 
 one-token : (part : Part) → length (tokens_of part) ≤ 1
 one-token (s, piece.Blank) = omega arith
@@ -40,3 +45,7 @@ few-tokens number bytes names spots s =
     let same : length (shown names spots) ≡ length (marks (start number) s.0) = ap length s.2 in
     let as_many : length (shown names spots) ≡ length spots = length-map {B = Place × Shown} spots (λ (t : Spot). (t.place, shown_token names t.token)) in
     omega (arith, few, same, as_many)
+
+pub few-of : (number : ℕ) (bytes : List ℕ) (names : List (List ℕ)) (r : Result (Vec Spot Global) LexErr) → Explains error.Memory r (λ v. Spelled number bytes (shown names v.items)) (IsFault number bytes) → IfOk r (λ v. length v.items ≤ length bytes)
+few-of number bytes names (Ok v) so = few-tokens number bytes names v.items so
+few-of number bytes names (Err e) so = tt
