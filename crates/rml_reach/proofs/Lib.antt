@@ -1,0 +1,11 @@
+pub mod Lists
+pub mod Along
+pub mod WorkListLemmas
+pub mod Ways
+pub mod Opening
+pub mod Closing
+pub mod Counting
+pub mod Ends
+pub mod CircleLemmas
+pub mod TurnedLemmas
+pub mod WithinLemmas
