@@ -1,0 +1,4 @@
+pub mod Separated
+pub mod Depth
+pub mod Exact
+pub mod Rows

@@ -1,0 +1,6 @@
+use Rattle.std.proofs.Common.{◌≡◌, ◌++◌, take}
+use Rattle.rml_fol.specs.Text.{lines_from, val_line}
+use Rattle.rml_fol.proofs.text.write_vals.Given as goal
+
+abbrev pub invariant-loop-i : goal.invariant-loop-i
+invariant-loop-i l = l.out.items ≡ l.fn.out.items ++ lines_from (val_line l.parts) 0 (take l.i l.parts.vals)

@@ -1,0 +1,13 @@
+pub mod Patterns
+pub mod Expressions
+pub mod Weights
+pub mod Statements
+pub mod Relations
+pub mod Runs
+pub mod Ways
+pub mod Growing
+pub mod TermText
+pub mod Text
+pub mod Fits
+pub mod Size
+pub mod Acts
