@@ -1,0 +1,9 @@
+pub mod Stacks
+pub mod Readings
+pub mod Kept
+pub mod Forms
+pub mod Outlines
+pub mod Comparisons
+pub mod Told
+pub mod Tasks
+pub mod Packing

@@ -1,0 +1,2 @@
+pub mod TrailState
+pub mod Future
