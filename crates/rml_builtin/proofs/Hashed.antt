@@ -5,7 +5,7 @@ use Rattle.std.specs.Str.{bytes_eq}
 use Rattle.std.proofs.lemmas.List.{length-map}
 use Rattle.std.specs.List.{list_any}
 use Rattle.rml_base.specs.Numbering.{same, with_name}
-use Rattle.rml_base.proofs.Numbered.{keys-kept, keys-more, place-map}
+use Rattle.rml_base.proofs.Callers.{keys-kept, keys-more, place-map}
 use Rattle.rml_builtin.specs.declared.row.TheConstants.{ROWS}
 use Rattle.rml_builtin.specs.declared.row.Row.{Row}
 use Rattle.rml_builtin.specs.Table.{name_of}

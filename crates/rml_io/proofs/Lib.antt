@@ -1,3 +1,4 @@
 pub mod Fronts
 pub mod Stores
 pub mod Taken
+pub mod Callers

@@ -13,3 +13,4 @@ pub mod Wholes
 pub mod PlacesBehind
 pub mod Decided
 pub mod FewTokens
+pub mod Callers

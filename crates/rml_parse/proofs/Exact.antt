@@ -9,9 +9,7 @@ use Rattle.rml_grammar.specs.declared.fault.ParseKind.{ParseKind}
 use Rattle.rml_grammar.specs.declared.fault.ParseKind.TheVariants as kind
 use Rattle.rml_grammar.specs.SpelledTexts.{Derives}
 use Rattle.rml_grammar.specs.Texts.{whole_text}
-use Rattle.rml_grammar.proofs.LimitsLaws.{one-tree}
-use Rattle.rml_grammar.proofs.LimitsTexts.{text-within}
-use Rattle.rml_grammar.proofs.Places.{sound}
+use Rattle.rml_grammar.proofs.Callers.{one-tree, sound, text-within}
 use Rattle.rml_parse.specs.declared.answer.ParseErr.{ParseErr}
 use Rattle.rml_parse.specs.declared.answer.ParseErr.TheVariants as error
 use Rattle.rml_parse.specs.Answers.{IsFaultOf, Says}

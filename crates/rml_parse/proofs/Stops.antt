@@ -15,10 +15,7 @@ use Rattle.rml_grammar.specs.Laws.{Agrees, IsLimit, IsUnexpected}
 use Rattle.rml_grammar.specs.Limits.{IsAtLimit}
 use Rattle.rml_grammar.specs.SpelledTexts.{Derives}
 use Rattle.rml_grammar.specs.Texts.{whole_text}
-use Rattle.rml_grammar.proofs.LimitsLargerTexts.{later-fault}
-use Rattle.rml_grammar.proofs.LimitsLaws.{refused, within-read}
-use Rattle.rml_grammar.proofs.LimitsTexts.{fault-at}
-use Rattle.rml_grammar.proofs.Places.{complete, ended, placed}
+use Rattle.rml_grammar.proofs.Callers.{complete, ended, fault-at, later-fault, placed, refused, within-read}
 use Rattle.rml_parse.specs.Answers.{place_left, place_or}
 use Rattle.rml_parse.specs.Faults.{GoesOnBeyond, IsText, IsTextWithin, IsTree, IsWrong, NoneBegins, StopsAt, place_of}
 

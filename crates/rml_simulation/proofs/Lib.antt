@@ -5,3 +5,4 @@ pub mod Carried
 pub mod Learned
 pub mod Silent
 pub mod Tried
+pub mod Callers

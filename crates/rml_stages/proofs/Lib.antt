@@ -3,3 +3,4 @@ pub mod OneReadingOfAll
 pub mod Causes
 pub mod Calls
 pub mod Turns
+pub mod Callers

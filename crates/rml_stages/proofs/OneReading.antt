@@ -8,17 +8,14 @@ use Rattle.rml_lex.specs.declared.piece.LexKind.{LexKind}
 use Rattle.rml_lex.specs.Numbered.{names_in, spots_in, with_names}
 use Rattle.rml_lex.specs.Reading.{FirstFault, Shown, Spelled}
 use Rattle.rml_lex.specs.Places.{start}
-use Rattle.rml_lex.proofs.Decided.{is-read}
-use Rattle.rml_lex.proofs.Unique.{one-list, same-fault, unspelled}
+use Rattle.rml_lex.proofs.Callers.{is-read, one-list, same-fault, unspelled}
 use Rattle.rml_grammar.specs.declared.fault.Fault.{Fault}
 use Rattle.rml_grammar.specs.Texts.{whole_text}
 use Rattle.rml_grammar.specs.SpelledTexts.{Derives}
-use Rattle.rml_grammar.proofs.LimitsLaws.{one-tree}
-use Rattle.rml_grammar.proofs.LimitsTexts.{text-within}
-use Rattle.rml_grammar.proofs.Places.{sound}
+use Rattle.rml_grammar.proofs.Callers.{one-tree, sound, text-within}
 use Rattle.rml_parse.specs.Answers.{place_left}
 use Rattle.rml_parse.specs.Faults.{StopsAt}
-use Rattle.rml_parse.proofs.Stops.{not-both as not-tree-and-stop, one-stop, stops-at}
+use Rattle.rml_parse.proofs.Callers.{not-both as not-tree-and-stop, one-stop, stops-at}
 use Rattle.rml_stages.specs.declared.refusal.Refusal.{Refusal}
 use Rattle.rml_stages.specs.Refusals.{misspelled, underived}
 use Rattle.rml_stages.specs.Reading.{IsRead, IsRefused, IsSpelledAs, end_of, is_misspelled, is_underived}

@@ -9,7 +9,7 @@ use Rattle.rml_io.specs.Files.{Held}
 use Rattle.rml_lex.specs.Character.{unescaped}
 use Rattle.rml_lex.specs.Places.{start}
 use Rattle.rml_lex.specs.Reading.{Part, Reaches}
-use Rattle.rml_lex.proofs.Unique.{one-reading}
+use Rattle.rml_lex.proofs.Callers.{one-reading}
 use Rattle.rml_print.specs.Listing.{listing}
 use Rattle.rml_print.specs.Printed.{printed_text}
 use Rattle.rml_syntax.specs.declared.texts.Text.{Text}
@@ -18,7 +18,7 @@ use Rattle.rml_stages.specs.declared.refusal.Refusal.{Refusal}
 use Rattle.rml_stages.specs.declared.refusal.Refusal.TheVariants as refusal
 use Rattle.rml_stages.specs.declared.refusal.Which.TheVariants as which
 use Rattle.rml_stages.specs.Shown.{ShowsTokens, ShowsTree}
-use Rattle.rml_stages.proofs.OneReadingOfAll.{each-list}
+use Rattle.rml_stages.proofs.Callers.{each-list}
 use Rattle.rml_words.specs.Forms.{Asks, Check, ShowTokens, ShowTree, Show, ShowC, Run, Crun, Make}
 use Rattle.rml_top.specs.Due.{AreAccepted, Outputs, PrintsFirst, IsDue, IsMissing, usage, unbuilt_command, many_texts, many_arguments, long_text, long_texts, limit, syntax_fault, done, unbuilt}
 use Rattle.rml_top.specs.Line.{Reads, takes_texts, text_names, arguments_of, is_plain_run}

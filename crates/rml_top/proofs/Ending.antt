@@ -5,7 +5,7 @@ use Rattle.std.specs.declared.option.Option.{Option}
 use Rattle.rml_io.specs.Counts.{Rose}
 use Rattle.rml_io.specs.Files.{Held}
 use Rattle.rml_io.specs.Sink.{SinkSeen, and_bytes, TookFront}
-use Rattle.rml_io.proofs.Fronts.{and_bytes-nil}
+use Rattle.rml_io.proofs.Callers.{and_bytes-nil}
 use Rattle.rml_words.specs.Forms.{Asks}
 use Rattle.rml_top.specs.Answers.{IsDueFor, NoFault, IsAnswered, OnlyAccepted}
 use Rattle.rml_top.specs.Due.{IsDue, IsMissing, usage, unbuilt_command, many_texts, many_arguments, long_text, long_texts, limit, syntax_fault, done, unbuilt}

@@ -5,7 +5,7 @@ use Rattle.std.specs.declared.option.Option.{Option}
 use Rattle.std.proofs.lemmas.List.Elements.{All-cons, All-nil}
 use Rattle.rml_io.specs.Files.{Held}
 use Rattle.rml_words.specs.Forms.{Asks, IsLine, Run, run, cells_first, default_cells, default_steps, no_dashes, is_file}
-use Rattle.rml_words.proofs.Reading.{one}
+use Rattle.rml_words.proofs.Callers.{one}
 use Rattle.rml_top.specs.Answers.{IsDueFor, RunsFirstForm}
 use Rattle.rml_top.specs.Due.{IsDue, Outputs, done}
 use Rattle.rml_top.specs.Ends.{Work}

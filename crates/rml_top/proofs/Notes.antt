@@ -5,7 +5,7 @@ use Rattle.std.specs.declared.option.Option.{Option}
 use Rattle.std.proofs.lemmas.Grind.{flat_map-append}
 use Rattle.std.proofs.lemmas.List.{take-append-le}
 use Rattle.rml_io.specs.Sink.{and_bytes, TookFront}
-use Rattle.rml_io.proofs.Fronts.{wrote_front}
+use Rattle.rml_io.proofs.Callers.{wrote_front}
 
 -- a front of a text is one of what goes on from it
 front-longer : (before after : Option (List ℕ)) (text rest : List ℕ) → TookFront before after text → TookFront before after (text ++ rest)

@@ -6,7 +6,7 @@ use Rattle.std.specs.declared.option.Option.{Option}
 use Rattle.rml_base.specs.declared.place.Place.{Place}
 use Rattle.rml_io.specs.Files.{Held, FilesSeen}
 use Rattle.rml_io.specs.Sink.{and_bytes}
-use Rattle.rml_io.proofs.Fronts.{and_bytes-nil}
+use Rattle.rml_io.proofs.Callers.{and_bytes-nil}
 use Rattle.rml_lex.specs.Places.{start}
 use Rattle.rml_lex.specs.declared.piece.LexKind.{LexKind}
 use Rattle.rml_lex.specs.declared.piece.LexKind.TheVariants as lexical

@@ -3,8 +3,7 @@ use Rattle.std.proofs.Common.{◌≡◌, ℕ, zero, suc, ◌<◌, ◌≤◌, Boo
 use Rattle.std.specs.List.{list_all}
 use Rattle.rml_lex.specs.Reading.{Part, Reaches, IsSound}
 use Rattle.rml_lex.specs.Spells.{BeginsNothing, IsLongest}
-use Rattle.rml_lex.proofs.SoFar.{longest-pos, reaches-more}
-use Rattle.rml_lex.proofs.Unique.{no-piece, one-reading, same-length, same-piece, split}
+use Rattle.rml_lex.proofs.Callers.{longest-pos, no-piece, one-reading, reaches-more, same-length, same-piece, split}
 use Rattle.rml_lex.specs.declared.piece.Piece.{Piece}
 use Rattle.rml_lex.specs.declared.piece.Piece.TheVariants as piece
 use Rattle.rml_top.specs.Text.{is_blank, is_comment, is_refused, spellings, HasTokens}

@@ -22,9 +22,8 @@ use Rattle.rml_lex.specs.Places.{place_after}
 use Rattle.rml_lex.specs.Reading.{IsSound, Part, Reaches, Shown, Word, Name, TyVar, Int, Char, Text, Sign, Dashes, marks, tokens_of}
 use Rattle.rml_lex.specs.Spelling.{name_piece, named, whole}
 use Rattle.rml_lex.specs.Spells.{Spells}
-use Rattle.rml_lex.proofs.Wholes.{spells-whole}
+use Rattle.rml_lex.proofs.Callers.{letter-blank, letter-digit, letter-on, spells-whole}
 use Rattle.rml_lex.specs.Words.{word_of}
-use Rattle.rml_lex.proofs.Wholes.{letter-blank, letter-digit, letter-on}
 use Rattle.rml_top.specs.FirstForm.{begins, is_dashes, is_literal, is_module_name}
 use Rattle.rml_top.specs.Text.{is_blank, is_comment, spellings}
 use Rattle.rml_top.proofs.Reading.{guard_some}

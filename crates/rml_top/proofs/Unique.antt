@@ -18,8 +18,7 @@ use Rattle.rml_stages.specs.declared.refusal.Refusal.{Refusal}
 use Rattle.rml_stages.specs.declared.refusal.Refusal.TheVariants as refusal
 use Rattle.rml_stages.specs.declared.refusal.Which.{Which}
 use Rattle.rml_stages.specs.declared.refusal.Which.TheVariants as which
-use Rattle.rml_stages.proofs.OneReading.{same-spots, one-text}
-use Rattle.rml_stages.proofs.OneReadingOfAll.{one-first-refusal, not-both-of-all}
+use Rattle.rml_stages.proofs.Callers.{not-both-of-all, one-first-refusal, one-text, same-spots}
 use Rattle.rml_top.specs.Due.{AreAccepted, Outputs, PrintsFirst, AreRefused, IsDue, IsMissing, usage, unbuilt_command, many_texts, many_arguments, long_text, long_texts, limit, syntax_fault, done, unbuilt}
 use Rattle.rml_top.specs.Line.{Reads, takes_texts, text_names, arguments_of}
 use Rattle.rml_top.specs.FirstForm.{IsFirstForm}

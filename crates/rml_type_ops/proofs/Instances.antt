@@ -7,10 +7,7 @@ use Rattle.rml_types.specs.declared.tree.SchemeTree.TheVariants as tree
 use Rattle.rml_types.specs.Instances.{IsInstance}
 use Rattle.rml_types.specs.Schemes.{every, inst, unit, vars_below}
 use Rattle.rml_types.specs.Spelled.{leaves}
-use Rattle.rml_types.proofs.LabelNumbers.{below-bound}
-use Rattle.rml_types.proofs.Spelled.{leaf-at}
-use Rattle.rml_types.proofs.Substitutions.{below-Named, below-Rel, below-Tuple, below-Var, both, inst-Named, inst-Rel, inst-Tuple, inst-Var}
-use Rattle.rml_types.proofs.Trees.{induct, fold-Var, fold-Named, fold-Tuple, fold-Rel}
+use Rattle.rml_types.proofs.Callers.{below-Named, below-Rel, below-Tuple, below-Var, below-bound, both, fold-Named, fold-Rel, fold-Tuple, fold-Var, induct, inst-Named, inst-Rel, inst-Tuple, inst-Var, leaf-at}
 use Rattle.rml_type_ops.specs.Renaming.{IsSameUpToNames, renamed, renamed_at}
 use Rattle.rml_type_ops.proofs.Renamings.{symmetric}
 

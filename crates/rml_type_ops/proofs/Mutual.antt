@@ -11,9 +11,7 @@ use Rattle.rml_types.specs.declared.tree.SchemeTree.TheViews.{out-roll-SchemeTre
 use Rattle.rml_types.specs.General.{all_of, variables_at, variables_in}
 use Rattle.rml_types.specs.Instances.{IsInstance}
 use Rattle.rml_types.specs.Schemes.{inst, unit}
-use Rattle.rml_types.proofs.LabelNumbers.{body-instance}
-use Rattle.rml_types.proofs.Substitutions.{inst-Named, inst-Rel, inst-Tuple, inst-Var}
-use Rattle.rml_types.proofs.Trees.{induct, fold-Var, fold-Named, fold-Tuple, fold-Rel}
+use Rattle.rml_types.proofs.Callers.{body-instance, fold-Named, fold-Rel, fold-Tuple, fold-Var, induct, inst-Named, inst-Rel, inst-Tuple, inst-Var}
 use Rattle.rml_type_ops.specs.Renaming.{IsSameUpToNames, renamed, renamed_at}
 use Rattle.rml_type_ops.proofs.Instances.{same-instances}
 

@@ -15,11 +15,7 @@ use Rattle.rml_types.specs.General.{variables_in}
 use Rattle.rml_types.specs.Labels.{Label, all_labels, labels}
 use Rattle.rml_types.specs.Nodes.{Fits}
 use Rattle.rml_types.specs.Spelled.{number_of, numbers_in, place}
-use Rattle.rml_types.proofs.FiniteTypes.{induct-built}
-use Rattle.rml_types.proofs.LabelLists.{labels-built}
-use Rattle.rml_types.proofs.LabelNumbers.{all-left, all-right, labels-one, variables-labels}
-use Rattle.rml_types.proofs.Numbering.{place-known, place-new, place-stays}
-use Rattle.rml_types.proofs.Trees.{fold-Var, fold-Named, fold-Tuple, fold-Rel}
+use Rattle.rml_types.proofs.Callers.{all-left, all-right, fold-Named, fold-Rel, fold-Tuple, fold-Var, induct-built, labels-built, labels-one, place-known, place-new, place-stays, variables-labels}
 use Rattle.rml_type_ops.specs.Numbered.{numbered, numbered_con, vars_after}
 use Rattle.rml_type_ops.specs.Renaming.{IsSameUpToNames, renamed, renamed_at}
 

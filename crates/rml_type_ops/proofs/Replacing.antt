@@ -9,11 +9,7 @@ use Rattle.rml_types.specs.Finite.{built}
 use Rattle.rml_types.specs.Labels.{Label, all_labels, labels, labels_at}
 use Rattle.rml_types.specs.Nodes.{Fits}
 use Rattle.rml_types.specs.Schemes.{inst, unit}
-use Rattle.rml_types.proofs.FiniteTypes.{induct-built}
-use Rattle.rml_types.proofs.Growth.{make-inst, make-other}
-use Rattle.rml_types.proofs.LabelLists.{labels-built}
-use Rattle.rml_types.proofs.Substitutions.{inst-Var}
-use Rattle.rml_types.proofs.Trees.{fold-Var}
+use Rattle.rml_types.proofs.Callers.{fold-Var, induct-built, inst-Var, labels-built, make-inst, make-other}
 use Rattle.rml_type_ops.specs.Replaced.{labels_for, replaced}
 
 replaced-append : (ts : List SchemeTree) (ls ms : List Label) → replaced ts (ls ++ ms) ≡ replaced ts ls ++ replaced ts ms

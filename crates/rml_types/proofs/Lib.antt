@@ -17,3 +17,4 @@ pub mod Trees
 pub mod Turns
 pub mod Walks
 pub mod Written
+pub mod Callers

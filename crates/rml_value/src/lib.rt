@@ -9,10 +9,13 @@ mod list;
 mod range;
 mod value;
 
+/// What a value's fields are made of, for those who build or take one apart.
 pub use copying::{copy, copy_all};
 pub use equality::equal;
 pub use list::{items_of, length_of, list_of, list_onto};
 pub use range::{GREATEST, LEAST, in_range};
+pub use rml_base::Bytes;
+pub use sqlite_items::Items;
 pub use value::{CONS, FALSE, NIL, NONE, SOME, TRUE, Value, Values};
 
 #[cfg(test)]

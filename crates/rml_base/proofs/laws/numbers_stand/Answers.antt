@@ -1,4 +1,4 @@
-use Rattle.rml_base.proofs.Callers.{name-given, name-bytes, name-known, name-next, name-one, name-old}
+use Rattle.rml_base.proofs.KnownNames.{name-given, name-bytes, name-known, name-next, name-one, name-old}
 use Rattle.rml_base.proofs.laws.numbers_stand.Goals as goal
 
 pub returns-clause-given : goal.returns-clause-given

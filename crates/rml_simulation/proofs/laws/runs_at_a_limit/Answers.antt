@@ -1,5 +1,4 @@
-use Rattle.rml_base.proofs.LightLaws.{light_transitive}
-use Rattle.rml_base.proofs.SameLaws.{light_same}
+use Rattle.rml_base.proofs.Callers.{light_same, light_transitive}
 use Rattle.rml_simulation.proofs.laws.runs_at_a_limit.Goals as goal
 
 pub returns-clause-same : goal.returns-clause-same

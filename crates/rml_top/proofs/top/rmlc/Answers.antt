@@ -1,5 +1,5 @@
 use Rattle.std.proofs.Common.{◌≡◌, ◌∙◌, false, refl, ap, None, Some}
-use Rattle.rml_words.proofs.Reading.{one}
+use Rattle.rml_words.proofs.Callers.{one}
 use Rattle.rml_words.specs.View.{asked}
 use Rattle.rml_top.specs.Line.{is_run}
 use Rattle.rml_top.specs.Due.{usage}

@@ -1,7 +1,7 @@
 use Rattle.std.proofs.Common.{◌∙◌, ◌≡◌, ap, sym, rules}
 use Rattle.std.proofs.lemmas.Slice.Eq.{slice_eq-Decides}
 use Rattle.rml_types.specs.Labels.{labels}
-use Rattle.rml_types.proofs.LabelNumbers.{labels-one}
+use Rattle.rml_types.proofs.Callers.{labels-one}
 use Rattle.rml_type_ops.proofs.equality.same_type.Goals as goal
 
 pub returns : goal.returns

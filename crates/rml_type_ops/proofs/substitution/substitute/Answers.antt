@@ -1,7 +1,7 @@
 use Rattle.std.proofs.Common.{◌∙◌, ap, sym, subst}
 use Rattle.rml_types.specs.Runs.{Ready}
 use Rattle.rml_types.specs.Schemes.{inst}
-use Rattle.rml_types.proofs.LabelNumbers.{copied, labels-ready}
+use Rattle.rml_types.proofs.Callers.{copied, labels-ready}
 use Rattle.rml_type_ops.specs.Replaced.{replaced}
 use Rattle.rml_type_ops.proofs.Replacing.{labels-inst}
 use Rattle.rml_type_ops.proofs.substitution.substitute.Goals as goal
