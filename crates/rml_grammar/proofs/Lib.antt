@@ -39,4 +39,16 @@ pub mod LimitsLargerPatterns
 pub mod LimitsLargerTypes
 pub mod LimitsLargerGoals
 pub mod LimitsLargerTexts
+pub mod Folds
+pub mod SizesExpressions
+pub mod SizesPatterns
+pub mod SizesGoals
+pub mod SizesTexts
+pub mod Depths
+pub mod DepthsExpressions
+pub mod DepthsPatterns
+pub mod DepthsTypes
+pub mod DepthsGoals
+pub mod DepthsTexts
 pub mod Lacks
+pub mod Callers

@@ -69,11 +69,11 @@ pub short-more_clauses : {us rest : List Spot} {rs : List Rule} → IsMoreClause
 short-more_clauses (s.no_more_clauses e) = omega arith
 short-more_clauses (s.more_clauses a b) = let x = shorter-clause a in let y = short-more_clauses b in omega arith
 
-short-optional_type : {us rest : List Spot} {t : Option TypeExp} → IsOptionalType us t rest → length rest ≤ length us
+pub short-optional_type : {us rest : List Spot} {t : Option TypeExp} → IsOptionalType us t rest → length rest ≤ length us
 short-optional_type (s.no_type e) = omega arith
 short-optional_type (s.a_type a) = let x = short-type a in omega arith
 
-short-optional_sig : {us rest : List Spot} {t : Option Sig} → IsOptionalSig us t rest → length rest ≤ length us
+pub short-optional_sig : {us rest : List Spot} {t : Option Sig} → IsOptionalSig us t rest → length rest ≤ length us
 short-optional_sig (s.no_sig e) = omega arith
 short-optional_sig (s.a_sig a) = let x = short-sig a in omega arith
 

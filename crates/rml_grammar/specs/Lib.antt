@@ -13,5 +13,7 @@ pub mod Patterns
 pub mod Expressions
 pub mod Goals
 pub mod Texts
+pub mod Sizes
+pub mod Depths
 pub mod Laws
 pub mod Limits

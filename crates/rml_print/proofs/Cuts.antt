@@ -17,8 +17,7 @@ use Rattle.rml_lex.specs.Places.{place_after, start}
 use Rattle.rml_lex.specs.Reading.{IsSound, Part, Reaches, Shown, behind, marks, shown, shown_token, tokens_of}
 use Rattle.rml_lex.specs.Spelling.{whole}
 use Rattle.rml_lex.specs.Spells.{IsLongest}
-use Rattle.rml_lex.proofs.Characters.{two-ways}
-use Rattle.rml_lex.proofs.Wholes.{longest-is, spells-whole}
+use Rattle.rml_lex.proofs.Callers.{longest-is, spells-whole, two-ways}
 use Rattle.rml_print.specs.Lines.{Line, gap, is_tight, line_bytes, lines_bytes, spaced, spaced_after}
 use Rattle.rml_print.specs.Printable.{AreApartFrom, AreReadAs, ArePrintable, IsPrintable}
 use Rattle.rml_print.specs.Spelling.{spelling}

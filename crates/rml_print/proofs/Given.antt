@@ -14,7 +14,7 @@ use Rattle.rml_lex.specs.Character.{escape_value, unescaped}
 use Rattle.rml_lex.specs.Places.{place_after, start}
 use Rattle.rml_lex.specs.Reading.{Part, Reaches, Shown, Word, Name, TyVar, Int, Char, Text, Sign, Dashes, Spelled, marks, shown, shown_token, tokens_of}
 use Rattle.rml_lex.specs.Spells.{AreCharacters, Nothing, Then, IsCharacter, Itself, Escaped, ThreeDigits, IsLongest, Spells}
-use Rattle.rml_lex.proofs.Characters.{text-value, two-ways}
+use Rattle.rml_lex.proofs.Callers.{text-value, two-ways}
 use Rattle.rml_print.specs.Printable.{IsPrintable}
 use Rattle.rml_print.specs.Spelling.{name_bytes}
 

@@ -10,8 +10,7 @@ use Rattle.std.proofs.lemmas.Grind.{fold-append}
 use Rattle.rml_lex.specs.Bytes.{is_digit, is_plain, number_from}
 use Rattle.rml_lex.specs.Number.{int_value, limit}
 use Rattle.rml_lex.specs.Spells.{IsDigits, NoSign, Signed, IsInt, IsCharacter, Itself, Escaped, ThreeDigits, AreCharacters, Nothing, Then, IsText}
-use Rattle.rml_lex.proofs.Characters.{three-value, two-ways}
-use Rattle.rml_lex.proofs.Comments.{is-eq}
+use Rattle.rml_lex.proofs.Callers.{is-eq, three-value, two-ways}
 use Rattle.rml_print.specs.Spelling.{escaped, numbered, quoted}
 
 -- integers

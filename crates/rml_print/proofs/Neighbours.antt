@@ -13,7 +13,7 @@ use Rattle.rml_syntax.specs.declared.token.Token.TheVariants as token
 use Rattle.rml_lex.specs.Bytes.{is_digit, is_letter, is_minus}
 use Rattle.rml_lex.specs.Spells.{IsDigits, IsInt, IsNameLike, IsSign, NoSign, Signed}
 use Rattle.rml_lex.specs.Words.{sign_spelling, word_spelling}
-use Rattle.rml_lex.proofs.Characters.{and-left, two-ways}
+use Rattle.rml_lex.proofs.Callers.{and-left, two-ways}
 use Rattle.rml_print.specs.Lines.{gap, holds_last, holds_next, is_name, is_open_round, is_tight}
 use Rattle.rml_print.specs.Printable.{IsPrintable, runs_together}
 use Rattle.rml_print.specs.Spelling.{name_bytes, spelling}

@@ -13,12 +13,7 @@ use Rattle.rml_grammar.specs.Laws.{IsLimit, Agrees}
 use Rattle.rml_grammar.specs.Limits.{open_after, rules_after, IsAtLimit}
 use Rattle.rml_grammar.specs.SpelledExpressions.{IsExp}
 use Rattle.rml_grammar.specs.SpelledPatterns.{IsPat}
-use Rattle.rml_grammar.proofs.CompleteExpressions.{exp-complete}
-use Rattle.rml_grammar.proofs.CompletePatterns.{pat-complete}
-use Rattle.rml_grammar.proofs.LimitsReading.{Whole, at-start, Ends, went, stopped}
-use Rattle.rml_grammar.proofs.LimitsExpressions.{exp-keeps}
-use Rattle.rml_grammar.proofs.LimitsPatterns.{pat-keeps}
-use Rattle.rml_grammar.proofs.LimitsLaws.{large}
+use Rattle.rml_grammar.proofs.Callers.{Ends, Whole, at-start, exp-complete, exp-keeps, large, pat-complete, pat-keeps, stopped, went}
 
 -- limits that no token meets
 abbrev roomy : List Spot → Whole

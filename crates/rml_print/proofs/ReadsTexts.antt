@@ -16,7 +16,7 @@ use Rattle.rml_grammar.specs.Tokens.{word, named, sign}
 use Rattle.rml_grammar.specs.Lacks.{LacksDecl, LacksSpec, LacksUses}
 use Rattle.rml_grammar.specs.SpelledTexts as s
 use Rattle.rml_grammar.specs.SpelledTexts.{IsUses, IsSpec, IsSpecs, IsDecl, IsDecls, Derives}
-use Rattle.rml_grammar.proofs.LimitsLaws.{one-tree}
+use Rattle.rml_grammar.proofs.Callers.{one-tree}
 use Rattle.rml_print.specs.Lines.{Line}
 use Rattle.rml_print.specs.Texts.{line, uses_line, decl_lines, part_lines}
 use Rattle.rml_print.specs.Plain.{nowhere, plain_uses, plain_decl, plain_text}

@@ -23,10 +23,7 @@ use Rattle.rml_lex.specs.Spelling.{name_piece, whole}
 use Rattle.rml_lex.specs.Literal.{char_inside, text_inside}
 use Rattle.rml_lex.specs.Spells.{AreCharacters, IsCharacter, IsInt, IsNameLike, Spells}
 use Rattle.rml_lex.specs.Words.{sign_spelling, word_spelling}
-use Rattle.rml_lex.proofs.Characters.{text-value}
-use Rattle.rml_lex.proofs.Literals.{char-first, inside-text}
-use Rattle.rml_lex.proofs.Numerals.{digits-whole, signed-whole}
-use Rattle.rml_lex.proofs.Wholes.{dashes-on, letter-blank, letter-digit, letter-on, prime-on, spells-whole}
+use Rattle.rml_lex.proofs.Callers.{char-first, dashes-on, digits-whole, inside-text, letter-blank, letter-digit, letter-on, prime-on, signed-whole, spells-whole, text-value}
 use Rattle.rml_print.specs.Printable.{IsPrintable}
 use Rattle.rml_print.specs.Spelling.{escaped, name_bytes, quoted, spelling}
 use Rattle.rml_print.proofs.Literals.{escaped-are, escaped-is, int-spelled, quoted-text}
