@@ -4,7 +4,7 @@ use Rattle.std.specs.Prelude.{◌&&◌, slice_get}
 use Rattle.std.specs.List.{list_all}
 use Rattle.rml_base.specs.Bytes.{are_bytes}
 use Rattle.rml_base.specs.Numbering.{same}
-use Rattle.rml_resolved.specs.declared.checked.Parts.{Parts}
+use Rattle.rml_resolved.specs.declared.parts.Parts.{Parts}
 use Rattle.rml_resolved.specs.Beginning.{types_begin, cons_begin, relations_begin}
 use Rattle.rml_resolved.specs.Binding.{relation_binds_once, relation_uses_bound}
 use Rattle.rml_resolved.specs.Circles.{has_no_circle, type_needs, val_needs}

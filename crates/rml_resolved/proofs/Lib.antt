@@ -1,9 +1,7 @@
-pub mod Begins
-pub mod Counts
-pub mod Apart
-pub mod Kept
+pub mod Counted
 pub mod Facts
 pub mod Numbers
 pub mod Rounds
 pub mod Variables
 pub mod Words
+pub mod Callers

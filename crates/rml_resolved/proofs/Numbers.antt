@@ -7,7 +7,7 @@ use Rattle.std.proofs.lemmas.List.{get_or_default}
 use Rattle.std.proofs.lemmas.List.Folds.{list_any_at}
 use Rattle.std.proofs.lemmas.Map.Views.{Contains-from_any}
 use Rattle.rml_base.specs.Numbering.{IsDistinct, same}
-use Rattle.rml_base.proofs.Numbered.{same-refl}
+use Rattle.rml_base.proofs.Callers.{same-refl}
 use Rattle.rml_resolved.specs.Differ.{all_differ}
 use Rattle.rml_resolved.proofs.Facts.{both}
 use Rattle.rml_resolved.proofs.Rounds.{is_it}

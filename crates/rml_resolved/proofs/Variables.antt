@@ -11,7 +11,7 @@ use Rattle.std.proofs.lemmas.List.Sums.{AllPass-from_list_all}
 use Rattle.std.proofs.lemmas.Map.Keys.{IsDistinct-cons}
 use Rattle.std.proofs.lemmas.Map.Steps.{length-le_from_distinct_below}
 use Rattle.rml_types.specs.Schemes.{every}
-use Rattle.rml_resolved.specs.declared.fits.Counts.{Counts}
+use Rattle.rml_resolved.specs.declared.parts.Counts.{Counts}
 use Rattle.rml_resolved.specs.declared.program.Program.{Program}
 use Rattle.rml_resolved.specs.declared.tables.ConDef.{ConDef}
 use Rattle.rml_resolved.specs.declared.tables.RelDef.{RelDef}
@@ -23,7 +23,7 @@ use Rattle.rml_resolved.specs.declared.trees.RGoal.TheOpen.{RGoal-F}
 use Rattle.rml_resolved.specs.Binding.{contains, binds_at, binds, all_bind, goal_binds_at, goal_binds, rule_binds, is_distinct, binds_once, relation_binds_once}
 use Rattle.rml_resolved.specs.Bound.{count}
 use Rattle.rml_resolved.specs.Fits.{pattern_at, pattern_fits, goal_fits_at, goal_fits, goals_fit, patterns_fit, exps_fit, callee_fits, exp_fits, rule_fits, relation_fits, counts_of}
-use Rattle.rml_resolved.proofs.Counts.{contains-count}
+use Rattle.rml_resolved.proofs.Counted.{contains-count}
 use Rattle.rml_resolved.proofs.Facts.{both}
 use Rattle.rml_resolved.proofs.Rounds.{both_ways, is_it, apart}
 

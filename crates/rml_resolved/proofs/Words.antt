@@ -10,8 +10,8 @@ use Rattle.rml_types.specs.declared.tree.SchemeTree.TheVariants as tree
 use Rattle.rml_types.specs.declared.tree.SchemeTree.TheVariants.{rolls-Var, rolls-Named, rolls-Rel}
 use Rattle.rml_builtin.specs.declared.types.TheConstants.{INT, LIST, BOOL}
 use Rattle.rml_builtin.specs.Types.{a, list}
-use Rattle.rml_resolved.specs.declared.beginning.Word.{Word}
-use Rattle.rml_resolved.specs.declared.beginning.Word.TheVariants.{Item, ItemList, Integer, Truth}
+use Rattle.rml_resolved.specs.declared.expected.Word.{Word}
+use Rattle.rml_resolved.specs.declared.expected.Word.TheVariants.{Item, ItemList, Integer, Truth}
 use Rattle.rml_resolved.specs.declared.program.Program.{Program}
 use Rattle.rml_resolved.specs.declared.tables.RelDef.{RelDef}
 use Rattle.rml_resolved.specs.Beginning.{begins, in_prelude, is_name, type_of, is_word, are_words, goes_by_words, is_declared, KnownRelation, is_known_relation, known_relations, relations_begin, HasType}

@@ -9,10 +9,10 @@ use Rattle.rml_types.specs.declared.tree.SchemeTree.TheOpen.{SchemeTree-F}
 use Rattle.rml_types.specs.declared.tree.SchemeTree.TheVariants as tree
 use Rattle.rml_builtin.specs.declared.types.TheConstants.{INT, LIST, BOOL, OPTION}
 use Rattle.rml_builtin.specs.Types.{a, int, bool, list}
-use Rattle.rml_resolved.specs.declared.beginning.Arguments.{Arguments}
-use Rattle.rml_resolved.specs.declared.beginning.Arguments.TheVariants.{Nothing, Parameter, HeadAndTail}
-use Rattle.rml_resolved.specs.declared.beginning.Word.{Word}
-use Rattle.rml_resolved.specs.declared.beginning.Word.TheVariants.{Item, ItemList, Integer, Truth}
+use Rattle.rml_resolved.specs.declared.expected.Arguments.{Arguments}
+use Rattle.rml_resolved.specs.declared.expected.Arguments.TheVariants.{Nothing, Parameter, HeadAndTail}
+use Rattle.rml_resolved.specs.declared.expected.Word.{Word}
+use Rattle.rml_resolved.specs.declared.expected.Word.TheVariants.{Item, ItemList, Integer, Truth}
 use Rattle.rml_resolved.specs.declared.tables.TypeDef.{TypeDef}
 use Rattle.rml_resolved.specs.declared.tables.ConDef.{ConDef}
 use Rattle.rml_resolved.specs.declared.tables.RelDef.{RelDef}

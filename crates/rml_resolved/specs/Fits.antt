@@ -7,7 +7,7 @@ use Rattle.rml_syntax.specs.declared.token.Lit.TheVariants as lit
 use Rattle.rml_types.specs.Schemes.{every}
 use Rattle.rml_value.specs.Range.{is_integer}
 use Rattle.rml_builtin.specs.declared.row.TheConstants.{ROWS}
-use Rattle.rml_resolved.specs.declared.fits.Counts.{Counts}
+use Rattle.rml_resolved.specs.declared.parts.Counts.{Counts}
 use Rattle.rml_resolved.specs.declared.tables.TypeDef.{TypeDef}
 use Rattle.rml_resolved.specs.declared.tables.ConDef.{ConDef}
 use Rattle.rml_resolved.specs.declared.tables.ValDef.{ValDef}

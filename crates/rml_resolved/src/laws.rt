@@ -12,7 +12,7 @@ ghost use Rattle.rml_resolved.specs.Circles.{Graph, has_no_circle, IsClosed, IsA
 ghost use Rattle.rml_resolved.specs.Differ.{all_differ};
 ghost use Rattle.rml_resolved.specs.Facts.{KeepsFacts, tables_of};
 ghost use Rattle.rml_resolved.specs.Whole.{is_program};
-ghost use Rattle.rml_resolved.specs.declared.checked.Parts.{Parts};
+ghost use Rattle.rml_resolved.specs.declared.parts.Parts.{Parts};
 ghost use Rattle.rml_resolved.specs.declared.program.Program.{Program};
 ghost use Rattle.rml_resolved.specs.declared.tables.RelDef.{RelDef};
 ghost use Rattle.rml_resolved.specs.declared.tables.RRule.{RRule};

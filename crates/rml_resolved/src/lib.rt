@@ -3,26 +3,18 @@
 //! of what a program does.
 #![tactic(auto)]
 
-mod beginning;
-mod binding;
-mod bound;
-mod checked;
-mod circles;
-mod fits;
+mod expected;
 pub mod laws;
 pub mod limits;
-mod names;
+mod parts;
 mod program;
 mod size;
 mod tables;
 mod trees;
-mod typing;
 
-pub use checked::Parts;
+pub use expected::{Arguments, Word};
+pub use parts::{Counts, Parts};
 pub use program::Program;
 pub use size::longest;
 pub use tables::{ConDef, RRule, RelDef, TypeDef, ValDef};
 pub use trees::{Callee, RExp, RGoal, RPat};
-
-#[cfg(test)]
-mod tests;

@@ -12,6 +12,7 @@ ghost use Rattle.rml_resolved.specs.Fits.{counts_of, relation_fits, val_fits};
 ghost use Rattle.rml_resolved.specs.Size.{relation_is_small, has_long_rule, is_light};
 ghost use Rattle.rml_resolved.specs.Typing.{type_def_fits, con_def_fits, is_main};
 
+use crate::parts::Parts;
 use crate::tables::{ConDef, RelDef, TypeDef, ValDef};
 use rml_base::Bytes;
 use sqlite_items::Items;
@@ -57,4 +58,33 @@ pub struct Program {
     pub ghost light: { IsTrue (is_light vals rels) },
     // `main` is there, of the type that `gives` tells, which has no variables
     pub ghost main_fits: { IsTrue (is_main gives (slice_get rels main)) },
+}
+
+impl Program {
+    ghost use Rattle.rml_resolved.specs.Facts.{KeepsFacts, IsMadeOf};
+
+    /// The program of tables that are known to keep each fact. It takes no memory and tests nothing.
+    pub fn of(parts: Parts) -> Program
+        requires { KeepsFacts parts }
+        ensures { IsMadeOf parts result }
+    {
+        let Parts {
+            names,
+            types,
+            cons,
+            vals,
+            rels,
+            main,
+            gives,
+        } = parts;
+        Program {
+            names,
+            types,
+            cons,
+            vals,
+            rels,
+            main,
+            gives,
+        }
+    }
 }

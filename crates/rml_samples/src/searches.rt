@@ -13,6 +13,7 @@ use crate::sample::parts;
 use crate::spelled::{Part, relations};
 use rml_base::laws::{light_reflexive, same_reflexive};
 use rml_base::{Bytes, Outcome};
+use rml_checked::program_of;
 use rml_resolved::Program;
 use rml_search::{Searched, search};
 use std::alloc::Global;
@@ -21,7 +22,7 @@ use std::test::Fail;
 fn program(alloc: Global, spelled: &[&[Part]], gives: bool) -> Result<Program, Fail> {
     let own = relations(alloc, spelled)?;
     let parts = parts(alloc, gives, own)?;
-    Ok(Program::checked(alloc, parts)?.ok_or("a program")?)
+    Ok(program_of(alloc, parts)?.ok_or("a program")?)
 }
 
 /// The most steps of a search without arguments, how it ends, and what it prints.

@@ -1,0 +1,5 @@
+use Rattle.std.proofs.Common.{length}
+use Rattle.rml_checked.proofs.beginning.+begin_cons.Given as goal
+
+abbrev pub decreases-begin_cons : goal.decreases-begin_cons
+decreases-begin_cons l = length l.expected.now

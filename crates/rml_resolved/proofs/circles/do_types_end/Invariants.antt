@@ -1,6 +1,0 @@
-use Rattle.std.proofs.Common.{◌≡◌, map, take}
-use Rattle.rml_resolved.specs.Circles.{type_needs}
-use Rattle.rml_resolved.proofs.circles.do_types_end.Given as goal
-
-abbrev pub invariant-loop-def : goal.invariant-loop-def
-invariant-loop-def l = l.graph ≡ map type_needs (take l.def-index l.types)
