@@ -17,15 +17,17 @@ use Rattle.rml_resolved.specs.declared.trees.Callee.TheVariants as callee
 use Rattle.rml_resolved.specs.declared.trees.RGoal.{RGoal, map-RGoal, roll-RGoal, fold-roll-RGoal, ind-RGoal}
 use Rattle.rml_resolved.specs.declared.trees.RGoal.TheOpen.{RGoal-F}
 use Rattle.rml_resolved.specs.declared.trees.RGoal.TheVariants.{Call, rolls-Call}
-use Rattle.rml_resolved.proofs.Facts.{both}
-use Rattle.rml_search.specs.declared.state.Matched.{Matched}
-use Rattle.rml_search.specs.declared.state.Matched.TheVariants as matched
+use Rattle.rml_resolved.proofs.Callers.{both}
+use Rattle.rml_terms.specs.declared.state.Matched.{Matched}
+use Rattle.rml_terms.specs.declared.state.Matched.TheVariants as matched
 use Rattle.rml_search.specs.declared.state.State.{State}
-use Rattle.rml_search.specs.Matching.{Env, matching_all}
+use Rattle.rml_terms.specs.Env.{Env}
+use Rattle.rml_terms.specs.Calling.{RelationCalls, with_value}
+use Rattle.rml_search.specs.Matching.{matching_all}
 use Rattle.rml_search.specs.Context.{Context}
 use Rattle.rml_search.specs.Values.{values_of}
 use Rattle.rml_builtin.specs.Called.{Called}
-use Rattle.rml_search.specs.Search.{step_trace, weighted_step, RelationCalls, Action, goes_on, goals_in_turn, taken, with_value, call, called, goal_action, going, going_all, answer, past_head, by_rule, try, Rules, relations_to, search_in}
+use Rattle.rml_search.specs.Search.{step_trace, weighted_step, Action, goes_on, goals_in_turn, taken, called, goal_action, going, going_all, answer, past_head, by_rule, try, Rules, relations_to, search_in}
 use Rattle.rml_search.specs.Parts.{callee_within, goal_within_at, goal_within, rule_within, StandsAlone, rules_within}
 use Rattle.rml_search.specs.Loop.{loop_and, first_relation}
 

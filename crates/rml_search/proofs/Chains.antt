@@ -8,14 +8,15 @@ use Rattle.rml_value.specs.declared.value.TheConstants.{CONS}
 use Rattle.rml_value.specs.Lists.{onto}
 use Rattle.rml_resolved.specs.declared.trees.RPat.{RPat}
 use Rattle.rml_value.specs.declared.value.Value.TheOpen.{Value-F}
-use Rattle.rml_search.specs.declared.state.Matched.{Matched}
-use Rattle.rml_search.specs.declared.state.Matched.TheVariants.{Yes, No, Wrong}
+use Rattle.rml_terms.specs.declared.state.Matched.{Matched}
+use Rattle.rml_terms.specs.declared.state.Matched.TheVariants.{Yes, No, Wrong}
 use Rattle.rml_search.specs.declared.state.Parts.{Parts}
 use Rattle.rml_search.specs.declared.state.Parts.TheVariants as parts
 use Rattle.rml_search.specs.declared.state.Parts.TheVariants.{HeadAndTail, Other}
-use Rattle.rml_search.specs.Matching.{Env, Matcher, then_match, match_all, match_con_at, match_con, match_list, match_chain}
+use Rattle.rml_terms.specs.Env.{Env}
+use Rattle.rml_terms.specs.Matching.{Matcher, then_match, match_all, match_con_at, match_con, match_list, match_chain}
+use Rattle.rml_terms.specs.Evaluating.{chain_of}
 use Rattle.rml_search.specs.Lists.{parts_at, head_at, tail_at, head_of, tail_of}
-use Rattle.rml_search.specs.Values.{chain_of}
 
 pub chain_of_append : (vs : List Value) (tail : Value) → chain_of (vs ++ tail ∷ []) ≡ Some (onto vs tail)
 chain_of_append [] tail = refl

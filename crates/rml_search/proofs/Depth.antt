@@ -9,7 +9,8 @@ use Rattle.rml_simulation.specs.Calls.{AlikeCalls, StepsToCall}
 use Rattle.rml_simulation.specs.CallsLaws.{deep_calls, unroll_calls}
 use Rattle.rml_search.specs.Context.{Context}
 use Rattle.rml_builtin.specs.Called.{Called}
-use Rattle.rml_search.specs.Search.{step_trace, weighted_step, RelationCalls, trace_of_built_in, Rules, relation_body, relations_to, relations}
+use Rattle.rml_terms.specs.Calling.{RelationCalls, trace_of_built_in}
+use Rattle.rml_search.specs.Search.{step_trace, weighted_step, Rules, relation_body, relations_to, relations}
 use Rattle.rml_search.specs.Walk.{EachWay, body_walk}
 
 alike_weighed : {A : Type 0} (weight b n : ℕ) (go next : ℕ → Partial A) → ((m : ℕ) → m < n → Alike b (go m) (next m))

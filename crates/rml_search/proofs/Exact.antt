@@ -14,11 +14,13 @@ use Rattle.rml_builtin.specs.declared.applied.Answer.{Answer}
 use Rattle.rml_resolved.specs.declared.program.Program.{Program}
 use Rattle.rml_search.specs.Context.{Context}
 use Rattle.rml_builtin.specs.Called.{Called}
-use Rattle.rml_search.specs.Search.{step_trace, weighted_step, RelationCalls, trace_of_built_in, Rules, relation_body, relations, search_in}
+use Rattle.rml_terms.specs.Calling.{RelationCalls, trace_of_built_in}
+use Rattle.rml_terms.specs.Running.{argument}
+use Rattle.rml_search.specs.Search.{step_trace, weighted_step, Rules, relation_body, relations, search_in}
 use Rattle.rml_search.specs.Whole.{context_of, rules_of}
 use Rattle.rml_search.specs.Walk.{EachWay, body_walk}
 use Rattle.rml_search.specs.Weights.{WeighsSteps}
-use Rattle.rml_search.specs.Runs.{argument, main_called, run_from, run_of, runs_of}
+use Rattle.rml_search.specs.Runs.{main_called, run_from, run_of, runs_of}
 use Rattle.rml_search.proofs.Depth.{steps_to_call}
 use Rattle.rml_search.proofs.Weighing.{main_weighs}
 

@@ -8,3 +8,4 @@ pub mod Exact
 pub mod Alone
 pub mod Traces
 pub mod Ends
+pub mod Callers

@@ -1,6 +1,6 @@
 -- What is bound after a match and after goals; and so each expression of a rule has a value where it comes to be evaluated.
 use Rattle.std.proofs.Common.{◌≡◌, ℕ, zero, suc, Bool, true, false, List, [], ◌∷◌, ◌++◌, map, length, Option, Some, None, refl, sym, ap, ◌∙◌, subst, append_assoc, arith}
-use Rattle.std.specs.Prelude.{◌==◌, ◌&&◌, if◌then◌else◌, slice_get, IsSome, option_map, option_and_then}
+use Rattle.std.specs.Prelude.{◌==◌, ◌&&◌, if◌then◌else◌, slice_get, IsSome, option_map, option_and_then, ℤ}
 use Rattle.std.specs.List.{list_all, concat, Contains}
 use Rattle.std.specs.Str.{bytes_eq}
 use Rattle.std.specs.Ordering.{int_eq}
@@ -36,16 +36,18 @@ use Rattle.rml_resolved.specs.declared.trees.RGoal.TheVariants.{Not, All, rolls-
 use Rattle.rml_resolved.specs.declared.trees.RGoal.TheViews.{out-roll-RGoal}
 use Rattle.rml_resolved.specs.Binding.{contains, binds_at, binds, all_bind, uses, all_use, callee_uses, can_use, Part, bound_at, after_goal, after_goals, parts_in_turn, before_results, has_all, uses_bound, relation_uses_bound}
 use Rattle.rml_resolved.specs.Fits.{goal_fits_at, pattern_fits, patterns_fit, exp_fits, exps_fit, callee_fits, goal_fits, goals_fit, rule_fits, relation_fits, counts_of}
-use Rattle.rml_resolved.proofs.Facts.{Both, both}
-use Rattle.rml_resolved.proofs.Variables.{passes}
-use Rattle.rml_search.specs.declared.state.Binding.{Binding}
-use Rattle.rml_search.specs.declared.state.Matched.{Matched}
-use Rattle.rml_search.specs.declared.state.Matched.TheVariants as matched
+use Rattle.rml_resolved.proofs.Callers.{Both, both, passes}
+use Rattle.rml_terms.specs.declared.state.Binding.{Binding}
+use Rattle.rml_terms.specs.declared.state.Matched.{Matched}
+use Rattle.rml_terms.specs.declared.state.Matched.TheVariants as matched
 use Rattle.rml_search.specs.declared.state.State.{State}
-use Rattle.rml_search.specs.Matching.{Env, bind, Matcher, then_match, match_in_turn, match_all, match_text, match_lit, match_con_at, match_tuple_at, match_list, match_chain, match_at, matching, matching_all}
-use Rattle.rml_search.specs.Values.{bound_in, value_of, values_of}
+use Rattle.rml_terms.specs.Env.{Env, bind, bound_in}
+use Rattle.rml_terms.specs.Matching.{Matcher, then_match, match_in_turn, match_all, match_con_at, match_tuple_at, match_list, match_chain, match_int, match_char, match_text}
+use Rattle.rml_terms.specs.Calling.{RelationCalls, trace_of_built_in, with_value}
+use Rattle.rml_search.specs.Matching.{match_named, match_lit, match_at, matching, matching_all}
+use Rattle.rml_search.specs.Values.{value_of, values_of}
 use Rattle.rml_search.specs.Context.{Context}
-use Rattle.rml_search.specs.Search.{step_trace, weighted_step, RelationCalls, Action, goes_on, goals_in_turn, from_match, taken, trace_of_built_in, from_built_in, with_value, call, relation_of, relation_called, called, goal_action, going, going_all}
+use Rattle.rml_search.specs.Search.{step_trace, weighted_step, Action, goes_on, goals_in_turn, from_match, taken, from_built_in, call, relation_of, relation_called, called, goal_action, going, going_all}
 use Rattle.rml_search.specs.Whole.{context_of}
 use Rattle.rml_search.specs.Standing.{BindsAlso, HasBound, Stands, in_rule, in_not, in_brackets, CalleeHasValue, HasValues}
 use Rattle.rml_search.proofs.Valued.{each_val, found_in, each_expression, all_expressions}
@@ -71,15 +73,26 @@ if_binds : (b : Bool) (env : Env) (xs : List ℕ) (m w : Matched) → BindsAlso 
 if_binds true env xs m w h k = h
 if_binds false env xs m w h k = k
 
-text_binds : (o : Option (List ℕ)) (t : List ℕ) (env : Env) → BindsAlso env [] (match_text o t env)
-text_binds None t env = tt
-text_binds (Some bytes) t env = if_binds (bytes_eq bytes t) env [] (matched.Yes env) matched.No (same_env env) tt
+int_binds : (n : ℤ) (w : Value-F Value) (env : Env) → BindsAlso env [] (match_int n w env)
+int_binds n (Value-F.Int m) env = if_binds (int_eq n m) env [] (matched.Yes env) matched.No (same_env env) tt
+int_binds n _ env = tt
+
+char_binds : (c : ℕ) (w : Value-F Value) (env : Env) → BindsAlso env [] (match_char c w env)
+char_binds c (Value-F.Char d) env = if_binds (c == d) env [] (matched.Yes env) matched.No (same_env env) tt
+char_binds c _ env = tt
+
+text_binds : (bytes : List ℕ) (w : Value-F Value) (env : Env) → BindsAlso env [] (match_text bytes w env)
+text_binds bytes (Value-F.Text t) env = if_binds (bytes_eq bytes t) env [] (matched.Yes env) matched.No (same_env env) tt
+text_binds bytes _ env = tt
+
+named_binds : (o : Option (List ℕ)) (w : Value-F Value) (env : Env) → BindsAlso env [] (match_named o w env)
+named_binds None w env = tt
+named_binds (Some bytes) w env = text_binds bytes w env
 
 lit_binds : (names : List (List ℕ)) (l : Lit) (w : Value-F Value) (env : Env) → BindsAlso env [] (match_lit names l w env)
-lit_binds names (lit.Int n) (Value-F.Int m) env = if_binds (int_eq n m) env [] (matched.Yes env) matched.No (same_env env) tt
-lit_binds names (lit.Char c) (Value-F.Char d) env = if_binds (c == d) env [] (matched.Yes env) matched.No (same_env env) tt
-lit_binds names (lit.Text k) (Value-F.Text t) env = text_binds (slice_get names k) t env
-lit_binds names _ _ env = tt
+lit_binds names (lit.Int n) w env = int_binds n w env
+lit_binds names (lit.Char c) w env = char_binds c w env
+lit_binds names (lit.Text k) w env = named_binds (slice_get names k) w env
 
 bind_bound : (x : ℕ) (v : Value) (env : Env) → bound_in (bind x v env) ≡ bound_in env ++ x ∷ []
 bind_bound x v env = map-append (λ (b : Binding). b.var) env (record { var = x; value = v } ∷ [])

@@ -8,18 +8,13 @@ use Rattle.rml_value.specs.declared.value.Value.{Value}
 use Rattle.rml_builtin.specs.declared.applied.Answer.{Answer}
 use Rattle.rml_builtin.specs.Applied.{Store}
 use Rattle.rml_resolved.specs.declared.tables.RRule.{RRule}
-use Rattle.rml_resolved.specs.declared.trees.RExp.{RExp}
-use Rattle.rml_resolved.specs.declared.trees.RPat.{RPat}
-use Rattle.rml_resolved.specs.declared.trees.RGoal.{RGoal, fold-roll-RGoal}
-use Rattle.rml_resolved.specs.declared.trees.RGoal.TheOpen.{RGoal-F}
-use Rattle.rml_resolved.specs.declared.trees.RGoal.TheVariants as rgoal
-use Rattle.rml_resolved.specs.declared.trees.RGoal.TheVariants.{rolls-Let}
+use Rattle.rml_resolved.specs.declared.trees.RGoal.{RGoal}
 use Rattle.rml_search.specs.declared.state.State.{State}
-use Rattle.rml_search.specs.Matching.{Env, matching}
+use Rattle.rml_terms.specs.Env.{Env}
+use Rattle.rml_terms.specs.Calling.{RelationCalls}
 use Rattle.rml_search.specs.Context.{Context}
-use Rattle.rml_search.specs.Values.{value_of}
 use Rattle.rml_builtin.specs.Called.{Called}
-use Rattle.rml_search.specs.Search.{step_trace, weighted_step, RelationCalls, Action, goals_in_turn, from_match, with_value, call, goal_action, going, by_rule, try, Rules, relations, relations_to}
+use Rattle.rml_search.specs.Search.{step_trace, weighted_step, Action, goals_in_turn, call, by_rule, try, Rules, relations, relations_to}
 
 -- ---- traces, one after the other
 

@@ -1,16 +1,17 @@
 -- A val at a depth, how large its expression is, and the values of expressions one after another.
 use Rattle.std.proofs.Common.{◌≡◌, ℕ, zero, suc, ◌+◌, ◌-◌, ◌<◌, ◌≤◌, List, [], ◌∷◌, ◌++◌, map, drop, length, get_or, Option, Some, None, append_assoc, sym, ◌∙◌, add-one, drop-cons, refl, ap, inl, inr, arith}
-use Rattle.std.specs.Prelude.{slice_get, sum_by, option_map}
+use Rattle.std.specs.Prelude.{slice_get, sum_by, option_map, option_and_then}
 use Rattle.std.proofs.lemmas.Option.{slice_get_cases, get_or_from_slice_get}
 use Rattle.std.proofs.lemmas.List.Sums.{get_or-le-sum_by}
 use Rattle.rml_resolved.specs.declared.tables.ValDef.{ValDef}
 use Rattle.rml_value.specs.declared.value.Value.{Value}
 use Rattle.rml_resolved.specs.declared.trees.RExp.{RExp}
-use Rattle.rml_search.specs.Matching.{Env}
-use Rattle.rml_search.specs.Values.{Evaluation, meaning, with_first, all_of, val_in, vals_to}
+use Rattle.rml_terms.specs.Env.{Env}
+use Rattle.rml_terms.specs.Evaluating.{Evaluation, with_first, all_of, vals_to}
+use Rattle.rml_search.specs.Values.{meaning_of_val}
 
 pub vals_to-some : (names : List (List ℕ)) (vals : List ValDef) (depth k : ℕ) → 0 < depth
-    → vals_to names vals depth k ≡ val_in (slice_get vals k) (λ e. meaning names (vals_to names vals (depth - 1)) e [])
+    → vals_to (meaning_of_val names) vals depth k ≡ option_and_then (λ (def : ValDef). meaning_of_val names (vals_to (meaning_of_val names) vals (depth - 1)) def []) (slice_get vals k)
 vals_to-some names vals zero k h = absurd (omega arith)
 vals_to-some names vals (suc depth) k h = let e : suc depth - 1 ≡ depth = omega arith in rw e refl
 

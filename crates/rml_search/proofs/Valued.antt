@@ -14,7 +14,7 @@ use Rattle.rml_value.specs.declared.value.Value.{Value}
 use Rattle.rml_value.specs.declared.value.Value.TheVariants as value
 use Rattle.rml_value.specs.declared.value.TheConstants.{CONS}
 use Rattle.rml_value.specs.Lists.{list_of}
-use Rattle.rml_resolved.specs.declared.fits.Counts.{Counts}
+use Rattle.rml_resolved.specs.declared.parts.Counts.{Counts}
 use Rattle.rml_resolved.specs.declared.program.Program.{Program}
 use Rattle.rml_resolved.specs.declared.tables.ConDef.{ConDef}
 use Rattle.rml_resolved.specs.declared.tables.ValDef.{ValDef}
@@ -23,11 +23,10 @@ use Rattle.rml_resolved.specs.declared.trees.RExp.TheOpen.{RExp-F}
 use Rattle.rml_resolved.specs.Binding.{contains, uses_at, uses, all_use, can_use}
 use Rattle.rml_resolved.specs.Circles.{Needs, vals_at, vals_in, val_needs}
 use Rattle.rml_resolved.specs.Fits.{lit_fits, exp_at, exp_fits, exps_fit, val_fits, counts_of}
-use Rattle.rml_resolved.proofs.Facts.{both}
-use Rattle.rml_resolved.proofs.Rounds.{by_rounds}
-use Rattle.rml_resolved.proofs.Variables.{passes}
-use Rattle.rml_search.specs.Matching.{Env}
-use Rattle.rml_search.specs.Values.{look, bound_in, value_of_lit, Evaluation, with_first, all_of, chain_of, value_at, meaning, val_in, vals_to, val_of, value_of, values_of}
+use Rattle.rml_resolved.proofs.Callers.{both, by_rounds, passes}
+use Rattle.rml_terms.specs.Env.{Env, look, bound_in}
+use Rattle.rml_terms.specs.Evaluating.{Evaluation, with_first, all_of, chain_of, vals_to}
+use Rattle.rml_search.specs.Values.{value_of_lit, value_at, meaning, meaning_of_val, val_of, value_of, values_of}
 use Rattle.rml_search.specs.Whole.{context_of}
 
 -- ---- over other vals
@@ -166,43 +165,43 @@ needs_at : (p : Program) (k j : ℕ) → Contains (unwrap_or (option_map val_nee
 needs_at p k j there = subst (λ (o : Option (List ℕ)). Contains (unwrap_or o []) j) (sym (slice_get-map val_needs p.vals k)) there
 
 val_same_at : (p : Program) (f g : ℕ → Option Value) (o : Option ValDef) → ((j : ℕ) → Contains (unwrap_or (option_map val_needs o) []) j → f j ≡ g j)
-    → val_in o (λ e. meaning p.names f e []) ≡ val_in o (λ e. meaning p.names g e [])
+    → option_and_then (λ (def : ValDef). meaning p.names f def.value []) o ≡ option_and_then (λ (def : ValDef). meaning p.names g def.value []) o
 val_same_at p f g None agree = refl
 val_same_at p f g (Some def) agree = same_value p.names f g def.value agree []
 
 -- once all that a val needs has its value at a depth, the val has its own at the next
-settled : (p : Program) (k : ℕ) → k < length p.vals → vals_to p.names p.vals (length p.vals) k ≡ vals_to p.names p.vals (suc (length p.vals)) k
+settled : (p : Program) (k : ℕ) → k < length p.vals → vals_to (meaning_of_val p.names) p.vals (length p.vals) k ≡ vals_to (meaning_of_val p.names) p.vals (suc (length p.vals)) k
 settled p k inside =
     let vals : List (List ℕ) = map val_needs p.vals in
     let count : length vals ≡ length p.vals = length-map p.vals val_needs in
-    subst (λ (n : ℕ). vals_to p.names p.vals n k ≡ vals_to p.names p.vals (suc n) k) count
-    (by_rounds vals (λ n i. vals_to p.names p.vals n i ≡ vals_to p.names p.vals (suc n) i) p.vals_end
-    (λ n i less agree. val_same_at p (vals_to p.names p.vals n) (vals_to p.names p.vals (suc n)) (slice_get p.vals i) (λ j there. agree j (needs_at p i j there))) k (omega arith))
+    subst (λ (n : ℕ). vals_to (meaning_of_val p.names) p.vals n k ≡ vals_to (meaning_of_val p.names) p.vals (suc n) k) count
+    (by_rounds vals (λ n i. vals_to (meaning_of_val p.names) p.vals n i ≡ vals_to (meaning_of_val p.names) p.vals (suc n) i) p.vals_end
+    (λ n i less agree. val_same_at p (vals_to (meaning_of_val p.names) p.vals n) (vals_to (meaning_of_val p.names) p.vals (suc n)) (slice_get p.vals i) (λ j there. agree j (needs_at p i j there))) k (omega arith))
 
-off : (p : Program) (n k : ℕ) → slice_get p.vals k ≡ None → vals_to p.names p.vals n k ≡ None
+off : (p : Program) (n k : ℕ) → slice_get p.vals k ≡ None → vals_to (meaning_of_val p.names) p.vals n k ≡ None
 off p zero k h = refl
-off p (suc n) k h = ap (λ (o : Option ValDef). val_in o (λ e. meaning p.names (vals_to p.names p.vals n) e [])) h
+off p (suc n) k h = ap (λ (o : Option ValDef). option_and_then (λ (def : ValDef). meaning p.names (vals_to (meaning_of_val p.names) p.vals n) def.value []) o) h
 
-pub val_is_its_expression : (p : Program) (k : ℕ) → (context_of p).vals k ≡ val_in (slice_get p.vals k) (λ e. value_of (context_of p) e [])
+pub val_is_its_expression : (p : Program) (k : ℕ) → (context_of p).vals k ≡ option_and_then (λ (def : ValDef). value_of (context_of p) def.value []) (slice_get p.vals k)
 val_is_its_expression p k =
     elim (slice_get_cases p.vals k).1 [
       | inl w ↦ settled p k w.1
       | inr w ↦ off p (length p.vals) k w.1 ∙ sym (off p (suc (length p.vals)) k w.1)
     ]
 
-valued_in : (o : Option ValDef) (def : ValDef) (go : RExp → Option Value) → o ≡ Some def → IsSome (go def.value) → IsSome (val_in o go)
-valued_in o def go is h = subst (λ (x : Option ValDef). IsSome (val_in x go)) (sym is) h
+valued_in : (o : Option ValDef) (def : ValDef) (go : ValDef → Option Value) → o ≡ Some def → IsSome (go def) → IsSome (option_and_then go o)
+valued_in o def go is h = subst (λ (x : Option ValDef). IsSome (option_and_then go x)) (sym is) h
 
 -- a val has a value at the depth after that at which all that it needs has one
-valued_next : (p : Program) (n k : ℕ) → k < length p.vals → ((j : ℕ) → Needs (map val_needs p.vals) k j → IsSome (vals_to p.names p.vals n j)) → IsSome (vals_to p.names p.vals (suc n) k)
+valued_next : (p : Program) (n k : ℕ) → k < length p.vals → ((j : ℕ) → Needs (map val_needs p.vals) k j → IsSome (vals_to (meaning_of_val p.names) p.vals n j)) → IsSome (vals_to (meaning_of_val p.names) p.vals (suc n) k)
 valued_next p n k inside each =
     elim (slice_get_cases p.vals k).1 [
       | inl w ↦ (let def : ValDef = w.0 in
           let counts = counts_of p.names p.vals p.rels in
           let there : Contains p.vals def = subst (λ (d : ValDef). Contains p.vals d) w.3 (Contains-get_or p.vals k def inside) in
           let fits = passes (val_fits counts p.types p.cons) p.vals def p.vals_fit there in
-          valued_in (slice_get p.vals k) def (λ e. meaning p.names (vals_to p.names p.vals n) e []) w.2
-          (has_value p.names (vals_to p.names p.vals n) counts p.cons 0 [] refl def.value (both _ (exp_fits counts p.cons 0 def.value) fits).second
+          valued_in (slice_get p.vals k) def (λ (d : ValDef). meaning p.names (vals_to (meaning_of_val p.names) p.vals n) d.value []) w.2
+          (has_value p.names (vals_to (meaning_of_val p.names) p.vals n) counts p.cons 0 [] refl def.value (both _ (exp_fits counts p.cons 0 def.value) fits).second
           (λ j less needed. each j (needs_at p k j (subst (λ (o : Option ValDef). Contains (unwrap_or (option_map val_needs o) []) j) (sym w.2) needed)))
           (λ x less used. absurd (omega arith))))
       | inr w ↦ absurd (let past = w.0 in omega arith)
@@ -212,8 +211,8 @@ pub each_val : (p : Program) (k : ℕ) → k < length p.vals → IsSome ((contex
 each_val p k inside =
     let vals : List (List ℕ) = map val_needs p.vals in
     let count : length vals ≡ length p.vals = length-map p.vals val_needs in
-    subst (λ (n : ℕ). IsSome (vals_to p.names p.vals n k)) count
-    (by_rounds vals (λ n i. IsSome (vals_to p.names p.vals n i)) p.vals_end (λ n i less each. valued_next p n i (omega arith) each) k (omega arith))
+    subst (λ (n : ℕ). IsSome (vals_to (meaning_of_val p.names) p.vals n k)) count
+    (by_rounds vals (λ n i. IsSome (vals_to (meaning_of_val p.names) p.vals n i)) p.vals_end (λ n i less each. valued_next p n i (omega arith) each) k (omega arith))
 
 -- ---- expressions of a program, where their variables are bound
 

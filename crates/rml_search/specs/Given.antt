@@ -3,7 +3,8 @@ use Rattle.std.specs.Prelude.{ℕ}
 use Rattle.rml_search.specs.declared.tables.Tables.{Tables}
 use Rattle.rml_search.specs.Context.{Context}
 use Rattle.rml_search.specs.Values.{val_of}
-use Rattle.rml_search.specs.Search.{RelationCalls, relations_to}
+use Rattle.rml_terms.specs.Calling.{RelationCalls}
+use Rattle.rml_search.specs.Search.{relations_to}
 use Rattle.rml_search.specs.Whole.{rules_of}
 
 abbrev pub context_in : Tables → Context

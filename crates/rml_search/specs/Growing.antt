@@ -14,10 +14,12 @@ use Rattle.rml_value.specs.declared.value.Value.{Value}
 use Rattle.rml_resolved.specs.declared.program.Program.{Program}
 use Rattle.rml_search.specs.Context.{Context}
 use Rattle.rml_builtin.specs.Called.{Called}
-use Rattle.rml_search.specs.Search.{step_trace, weighted_step, RelationCalls, trace_of_built_in, Rules, relation_body, search_in}
+use Rattle.rml_terms.specs.Calling.{RelationCalls, trace_of_built_in}
+use Rattle.rml_terms.specs.Running.{integer_in, argument}
+use Rattle.rml_search.specs.Search.{step_trace, weighted_step, Rules, relation_body, search_in}
 use Rattle.rml_search.specs.Whole.{context_of, rules_of}
 use Rattle.rml_search.specs.Walk.{EachWay, body_walk}
-use Rattle.rml_search.specs.Runs.{integer_in, argument, main_called, runs_of}
+use Rattle.rml_search.specs.Runs.{main_called, runs_of}
 
 grows_weighed : {A : Type 0} (weight j n : ℕ) (go next : ℕ → Partial A) → ((m : ℕ) → Grows j (go m) (next (m + j)))
     → Grows j (weighted_step weight go n) (weighted_step weight next (n + j))

@@ -1,28 +1,12 @@
 -- How the search for `main` ends: its runs.
-use Rattle.std.specs.Prelude.{ℕ, List, [], ◌∷◌, map, Option, Some, None, ℤ}
+use Rattle.std.specs.Prelude.{ℕ, List, [], ◌∷◌}
 use Rattle.rml_base.specs.Run.{Run, Runs, Answer as Answered, Failure, bare}
 use Rattle.rml_simulation.specs.declared.partial.Partial.{Partial}
 use Rattle.rml_simulation.specs.Partial.{followed}
-use Rattle.rml_value.specs.declared.value.Value.{Value, out-Value}
-use Rattle.rml_value.specs.declared.value.Value.TheOpen.{Value-F}
-use Rattle.rml_value.specs.declared.value.Value.TheVariants as value
-use Rattle.rml_value.specs.Lists.{list_of}
 use Rattle.rml_builtin.specs.declared.applied.Answer.{Answer}
+use Rattle.rml_terms.specs.Running.{integer_in, argument}
 use Rattle.rml_resolved.specs.declared.program.Program.{Program}
 use Rattle.rml_search.specs.Whole.{search_of}
-
-abbrev pub integer_at : Value-F Value → Option ℤ
-integer_at (Value-F.Int n) = Some n
-integer_at _ = None
-
--- the integer that one result is
-abbrev pub integer_in : List Value → Option ℤ
-integer_in (v ∷ []) = integer_at (out-Value v)
-integer_in _ = None
-
--- the list of the arguments as texts
-abbrev pub argument : List (List ℕ) → Value
-argument args = list_of (map value.Text args)
 
 -- the call of `main`
 abbrev pub main_called : Program → List (List ℕ) → ℕ → Partial Answer

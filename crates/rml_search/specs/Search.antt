@@ -2,24 +2,20 @@
 -- is an answer or none, with the steps that are left, or it is cut or Wrong; and with it a trace: the text that it printed,
 -- the cells of the texts, lists and vectors that its built-ins made, and the weight of its steps. It reads a context and the
 -- rules of relations, and knows no program.
-use Rattle.std.specs.Prelude.{ℕ, if◌then◌else◌, List, [], ◌∷◌, map, Option, Some, None, option_and_then, slice_get}
+use Rattle.std.specs.Prelude.{ℕ, if◌then◌else◌, List, [], ◌∷◌, map, Option, Some, None, option_and_then}
 use Rattle.rml_simulation.specs.declared.partial.Trace.{Trace}
 use Rattle.rml_simulation.specs.declared.partial.Partial.{Partial}
 use Rattle.rml_simulation.specs.declared.partial.Partial.TheVariants.{Yes, No, GoneWrong}
 use Rattle.rml_simulation.specs.Partial.{untraced, after, take_step, then_go, or_else, unless}
-use Rattle.rml_simulation.specs.Calls.{Calls, calls_to, calls_by_steps}
-use Rattle.rml_value.specs.declared.value.Value.{Value, out-Value}
-use Rattle.rml_value.specs.declared.value.Value.TheOpen.{Value-F}
+use Rattle.rml_simulation.specs.Calls.{calls_to, calls_by_steps}
+use Rattle.rml_value.specs.declared.value.Value.{Value}
 use Rattle.rml_value.specs.Same.{same}
 use Rattle.rml_builtin.specs.declared.applied.Answer.{Answer}
 use Rattle.rml_builtin.specs.declared.applied.Applied.{Applied}
 use Rattle.rml_builtin.specs.declared.applied.Applied.TheVariants as applied
-use Rattle.rml_builtin.specs.declared.row.TheConstants.{ROWS}
-use Rattle.rml_builtin.specs.declared.row.Row.{Row}
 use Rattle.rml_builtin.specs.Applied.{Store}
 use Rattle.rml_builtin.specs.Called.{Called}
 use Rattle.rml_builtin.specs.BuiltIns.{apply_at}
-use Rattle.rml_builtin.specs.Made.{cells_made}
 use Rattle.rml_resolved.specs.declared.tables.RRule.{RRule}
 use Rattle.rml_resolved.specs.declared.trees.RExp.{RExp}
 use Rattle.rml_resolved.specs.declared.trees.RPat.{RPat}
@@ -27,12 +23,14 @@ use Rattle.rml_resolved.specs.declared.trees.Callee.{Callee}
 use Rattle.rml_resolved.specs.declared.trees.Callee.TheVariants as callee
 use Rattle.rml_resolved.specs.declared.trees.RGoal.{RGoal, fold-RGoal}
 use Rattle.rml_resolved.specs.declared.trees.RGoal.TheOpen.{RGoal-F}
-use Rattle.rml_search.specs.declared.state.Matched.{Matched}
-use Rattle.rml_search.specs.declared.state.Matched.TheVariants as matched
+use Rattle.rml_terms.specs.declared.state.Matched.{Matched}
+use Rattle.rml_terms.specs.declared.state.Matched.TheVariants as matched
 use Rattle.rml_search.specs.declared.state.State.{State}
-use Rattle.rml_search.specs.Matching.{Env, matching, matching_all}
+use Rattle.rml_terms.specs.Env.{Env, look}
+use Rattle.rml_terms.specs.Calling.{RelationCalls, with_value, relation_in, trace_of_built_in}
+use Rattle.rml_search.specs.Matching.{matching, matching_all}
 use Rattle.rml_search.specs.Context.{Context}
-use Rattle.rml_search.specs.Values.{look, value_of, values_of}
+use Rattle.rml_search.specs.Values.{value_of, values_of}
 
 -- ---- steps
 
@@ -45,9 +43,6 @@ abbrev pub weighted_step : {A : Type 0} → ℕ → (ℕ → Partial A) → ℕ 
 weighted_step weight go n = take_step (λ m. after (step_trace weight) (go m)) n
 
 -- ---- goals, over what the calls give
-
-abbrev pub RelationCalls : Type 0
-RelationCalls = Calls Called Answer
 
 abbrev pub Action : Type 0
 Action = Env → Store → ℕ → Partial State
@@ -69,30 +64,10 @@ from_match matched.Wrong store n = GoneWrong untraced
 abbrev pub taken : Context → List RPat → Env → Answer → ℕ → Partial State
 taken c ps env a n = from_match (matching_all c.names ps a.values env) a.store n
 
-abbrev pub made_at : Option Row → List Value → ℕ
-made_at None vs = 0
-made_at (Some row) vs = cells_made row vs
-
-abbrev pub trace_of_built_in : ℕ → List Value → List ℕ → Trace
-trace_of_built_in number vs t = record { text = t; made = made_at (slice_get ROWS number) vs; weighed = 0 }
-
 abbrev pub from_built_in : Context → ℕ → List RPat → Env → Applied → ℕ → Partial State
 from_built_in c number ps env (applied.Yes a t) n = after (trace_of_built_in number a.values t) (taken c ps env a n)
 from_built_in c number ps env applied.No n = No untraced n
 from_built_in c number ps env applied.Wrong n = GoneWrong untraced
-
--- goes on with a value, or with a relation; where there is none it is Wrong
-abbrev pub with_value : {A C : Type 0} → Option A → (A → ℕ → Partial C) → ℕ → Partial C
-with_value None go n = GoneWrong untraced
-with_value (Some v) go n = go v n
-
-abbrev pub relation_at : Value-F Value → Option ℕ
-relation_at (Value-F.Rel r) = Some r
-relation_at _ = None
-
--- the relation that a value names
-abbrev pub relation_in : Value → Option ℕ
-relation_in v = relation_at (out-Value v)
 
 -- the relation that is called
 abbrev pub relation_of : Context → Callee → Env → Option ℕ

@@ -14,13 +14,15 @@ use Rattle.rml_resolved.specs.declared.trees.Callee.TheVariants as callee
 use Rattle.rml_resolved.specs.declared.trees.RGoal.{RGoal}
 use Rattle.rml_resolved.specs.declared.trees.RGoal.TheOpen.{RGoal-F}
 use Rattle.rml_resolved.specs.declared.trees.RGoal.TheVariants.{Not, All}
-use Rattle.rml_search.specs.declared.state.Matched.{Matched}
-use Rattle.rml_search.specs.declared.state.Matched.TheVariants as matched
+use Rattle.rml_terms.specs.declared.state.Matched.{Matched}
+use Rattle.rml_terms.specs.declared.state.Matched.TheVariants as matched
 use Rattle.rml_search.specs.declared.state.State.{State}
-use Rattle.rml_search.specs.Matching.{Env, matching_all}
+use Rattle.rml_terms.specs.Env.{Env, look, bound_in}
+use Rattle.rml_terms.specs.Calling.{RelationCalls}
+use Rattle.rml_search.specs.Matching.{matching_all}
 use Rattle.rml_search.specs.Context.{Context}
-use Rattle.rml_search.specs.Values.{look, bound_in, value_of, values_of}
-use Rattle.rml_search.specs.Search.{RelationCalls, going_all}
+use Rattle.rml_search.specs.Values.{value_of, values_of}
+use Rattle.rml_search.specs.Search.{going_all}
 use Rattle.rml_search.specs.Whole.{context_of}
 
 -- where a match is Yes, these are bound behind what was bound before

@@ -18,14 +18,16 @@ use Rattle.rml_resolved.specs.declared.trees.Callee.{Callee}
 use Rattle.rml_resolved.specs.declared.trees.Callee.TheVariants as callee
 use Rattle.rml_resolved.specs.declared.trees.RGoal.{RGoal, map-RGoal, roll-RGoal, fold-roll-RGoal, ind-RGoal}
 use Rattle.rml_resolved.specs.declared.trees.RGoal.TheOpen.{RGoal-F}
-use Rattle.rml_search.specs.declared.state.Matched.{Matched}
-use Rattle.rml_search.specs.declared.state.Matched.TheVariants as matched
+use Rattle.rml_terms.specs.declared.state.Matched.{Matched}
+use Rattle.rml_terms.specs.declared.state.Matched.TheVariants as matched
 use Rattle.rml_search.specs.declared.state.State.{State}
-use Rattle.rml_search.specs.Matching.{Env, matching, matching_all}
+use Rattle.rml_terms.specs.Env.{Env}
+use Rattle.rml_terms.specs.Calling.{RelationCalls, trace_of_built_in, with_value}
+use Rattle.rml_search.specs.Matching.{matching, matching_all}
 use Rattle.rml_search.specs.Values.{value_of, values_of}
 use Rattle.rml_search.specs.Context.{Context}
 use Rattle.rml_builtin.specs.Called.{Called}
-use Rattle.rml_search.specs.Search.{weighted_step, RelationCalls, Action, goes_on, goals_in_turn, from_match, taken, trace_of_built_in, from_built_in, with_value, call, relation_of, relation_called, called, goal_action, going, going_all, answer, past_head, try, Rules, relation_body}
+use Rattle.rml_search.specs.Search.{weighted_step, Action, goes_on, goals_in_turn, from_match, taken, from_built_in, call, relation_of, relation_called, called, goal_action, going, going_all, answer, past_head, try, Rules, relation_body}
 
 -- Holds relates a part of the search from n steps, with f for its calls, to the same part from `more n` steps, with g for them
 pub record EachWay (c : Context) (more : ℕ → ℕ) (f g : RelationCalls) (Holds : (A : Type 0) → ℕ → Partial A → Partial A → Type 0) : Type 1 where

@@ -16,6 +16,6 @@ mod values;
 pub use meaning::Searched;
 pub use patterns::{match_each, matching};
 pub use run::{PlainRun, search};
-pub use state::{Binding, Env, Matched, State};
+pub use state::State;
 pub use tables::{Tables, tables_of};
 pub use values::{find, val_of, value_of, values_of};

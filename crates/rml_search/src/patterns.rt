@@ -3,13 +3,16 @@
 ghost use Rattle.std.specs.Prelude.{◌≡◌, [], IfOk, map};
 ghost use Rattle.rml_value.specs.declared.value.Value.{out-Value};
 ghost use Rattle.rml_value.specs.declared.value.TheConstants as constants;
-ghost use Rattle.rml_search.specs.Matching.{bind, when as when_holds, matching as matching_of, matching_all, match_all, match_lit, match_con, match_list as list_matched, match_chain as chain_matched};
+ghost use Rattle.rml_terms.specs.Env.{bind};
+ghost use Rattle.rml_terms.specs.Matching.{when as when_holds, match_int as int_matched, match_char as char_matched, match_text as text_matched, match_all, match_con, match_list as list_matched, match_chain as chain_matched};
+ghost use Rattle.rml_search.specs.Matching.{matching as matching_of, matching_all, match_lit};
 ghost use Rattle.rml_search.specs.Lists.{parts_at, head_of, tail_of};
 
-use crate::state::{Binding, Env, Matched, Parts};
+use crate::state::Parts;
 use rml_base::{Bytes, Memory};
 use rml_resolved::RPat;
 use rml_syntax::Lit;
+use rml_terms::{Binding, Env, Matched};
 use rml_value::{CONS, NIL, Value, copy};
 use sqlite_items::{Items, at};
 use std::alloc::Global;
@@ -34,17 +37,43 @@ fn when(holds: bool, env: Env) -> Matched
     }
 }
 
+fn match_int(n: i64, value: &Value, env: Env) -> Matched
+    ensures { result ≡ int_matched n (out-Value value.now) env }
+{
+    match value {
+        Value::Int(m) => when(n == *m, env),
+        _ => Matched::Wrong,
+    }
+}
+
+fn match_char(c: u8, value: &Value, env: Env) -> Matched
+    ensures { result ≡ char_matched c (out-Value value.now) env }
+{
+    match value {
+        Value::Char(d) => when(c == *d, env),
+        _ => Matched::Wrong,
+    }
+}
+
+fn match_text(bytes: &[u8], value: &Value, env: Env) -> Matched
+    ensures { result ≡ text_matched bytes.now (out-Value value.now) env }
+{
+    match value {
+        Value::Text(text) => when(bytes == text.as_slice(), env),
+        _ => Matched::Wrong,
+    }
+}
+
 fn match_literal(names: &[Bytes], lit: Lit, value: &Value, env: Env) -> Matched
     ensures { result ≡ match_lit names.now lit (out-Value value.now) env }
 {
-    match (lit, value) {
-        (Lit::Int(a), Value::Int(b)) => when(a == *b, env),
-        (Lit::Char(a), Value::Char(b)) => when(a == *b, env),
-        (Lit::Text(k), Value::Text(b)) => match at(names, k as usize) {
-            Some(a) => when(a.as_slice() == b.as_slice(), env),
+    match lit {
+        Lit::Int(n) => match_int(n, value, env),
+        Lit::Char(c) => match_char(c, value, env),
+        Lit::Text(k) => match at(names, k as usize) {
+            Some(bytes) => match_text(bytes.as_slice(), value, env),
             None => Matched::Wrong,
         },
-        _ => Matched::Wrong,
     }
 }
 

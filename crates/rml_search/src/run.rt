@@ -4,7 +4,8 @@ ghost use Rattle.std.specs.Prelude.{◌≡◌, IfOk, map};
 ghost use Rattle.rml_base.specs.Run.{seen};
 ghost use Rattle.rml_simulation.specs.Partial.{trace_of};
 ghost use Rattle.rml_value.specs.declared.value.Value.TheVariants as value;
-ghost use Rattle.rml_search.specs.Runs.{integer_in, argument as argument_of, main_called, run_from, run_of};
+ghost use Rattle.rml_terms.specs.Running.{integer_in, argument as argument_of};
+ghost use Rattle.rml_search.specs.Runs.{main_called, run_from, run_of};
 
 use crate::plain::search_from;
 use crate::tables::tables_of;

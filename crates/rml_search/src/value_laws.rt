@@ -1,6 +1,6 @@
 //! What holds of the values of expressions and vals. These functions do nothing: their contracts are the laws.
 
-ghost use Rattle.std.specs.Prelude.{◌≡◌, ◌<◌, [], ℕ, List, length, IsSome, IsTrue, slice_get};
+ghost use Rattle.std.specs.Prelude.{◌≡◌, ◌<◌, [], ℕ, List, length, IsSome, IsTrue, option_and_then, slice_get};
 ghost use Rattle.std.specs.List.{Contains};
 ghost use Rattle.rml_simulation.specs.declared.partial.Trace.{Trace};
 ghost use Rattle.rml_simulation.specs.declared.partial.Partial.TheVariants.{Yes};
@@ -10,23 +10,26 @@ ghost use Rattle.rml_resolved.specs.Binding.{binds, all_bind, uses, all_use, can
 ghost use Rattle.rml_resolved.specs.Fits.{counts_of, exp_fits, exps_fit};
 ghost use Rattle.rml_resolved.specs.declared.program.Program.{Program};
 ghost use Rattle.rml_resolved.specs.declared.tables.RelDef.{RelDef};
+ghost use Rattle.rml_resolved.specs.declared.tables.ValDef.{ValDef};
 ghost use Rattle.rml_resolved.specs.declared.tables.RRule.{RRule};
 ghost use Rattle.rml_resolved.specs.declared.trees.RExp.{RExp};
 ghost use Rattle.rml_resolved.specs.declared.trees.RPat.{RPat};
 ghost use Rattle.rml_resolved.specs.declared.trees.RGoal.{RGoal, out-RGoal};
-ghost use Rattle.rml_search.specs.declared.state.Matched.TheVariants as matched;
+ghost use Rattle.rml_terms.specs.declared.state.Matched.TheVariants as matched;
 ghost use Rattle.rml_search.specs.declared.state.State.{State};
-ghost use Rattle.rml_search.specs.Matching.{Env, matching, matching_all};
+ghost use Rattle.rml_terms.specs.Env.{Env, bound_in};
+ghost use Rattle.rml_terms.specs.Calling.{RelationCalls};
+ghost use Rattle.rml_search.specs.Matching.{matching, matching_all};
 ghost use Rattle.rml_search.specs.Context.{Context};
-ghost use Rattle.rml_search.specs.Values.{bound_in, val_in, value_of, values_of};
-ghost use Rattle.rml_search.specs.Search.{RelationCalls, going, going_all};
+ghost use Rattle.rml_search.specs.Values.{value_of, values_of};
+ghost use Rattle.rml_search.specs.Search.{going, going_all};
 ghost use Rattle.rml_search.specs.Whole.{context_of};
 ghost use Rattle.rml_search.specs.Standing.{BindsAlso, HasBound, Stands, HasValues};
 
 /// A val is its expression's value; the depth to which vals are found is no bound. A number that no val has is none on both
 /// sides.
 pub fn a_val_is_its_expression()
-    ensures { (p : Program) (k : ℕ) → (context_of p).vals k ≡ val_in (slice_get p.vals k) (λ e. value_of (context_of p) e []) }
+    ensures { (p : Program) (k : ℕ) → (context_of p).vals k ≡ option_and_then (λ (def : ValDef). value_of (context_of p) def.value []) (slice_get p.vals k) }
 {}
 
 /// Each val of a program has a value.

@@ -4,13 +4,15 @@ ghost use Rattle.std.specs.Prelude.{◌≡◌, ◌≤◌, [], IfOk, map, sum_by}
 ghost use Rattle.rml_resolved.specs.Size.{val_size};
 ghost use Rattle.std.specs.Option.{option_copied};
 ghost use Rattle.rml_search.specs.Given.{context_in};
-ghost use Rattle.rml_search.specs.Values.{look, value_of_lit, chain_of as chain_of_values, meaning, vals_to, all_of, value_of as value_of_exp, values_of as values_of_exps};
+ghost use Rattle.rml_terms.specs.Env.{look};
+ghost use Rattle.rml_terms.specs.Evaluating.{chain_of as chain_of_values, vals_to, all_of};
+ghost use Rattle.rml_search.specs.Values.{value_of_lit, meaning, meaning_of_val, value_of as value_of_exp, values_of as values_of_exps};
 
-use crate::state::Binding;
 use crate::tables::Tables;
 use rml_base::{Bytes, Memory};
 use rml_resolved::{RExp, ValDef};
 use rml_syntax::Lit;
+use rml_terms::Binding;
 use rml_value::{Value, Values, copy, list_of, list_onto};
 use sqlite_items::{Items, at};
 use std::alloc::Global;
@@ -76,7 +78,7 @@ fn val(
     k: u32,
     depth: usize,
 ) -> Result<Option<Value>, Memory>
-    ensures { IfOk result (λ v. v ≡ vals_to names.now vals.now depth k) }
+    ensures { IfOk result (λ v. v ≡ vals_to (meaning_of_val names.now) vals.now depth k) }
 {
     if depth == 0 {
         return Ok(None);
@@ -96,7 +98,7 @@ fn val_by(
     depth: usize,
 ) -> Result<Option<Value>, Memory>
     requires { val_size def.now ≤ sum_by val_size vals.now }
-    ensures { IfOk result (λ v. v ≡ meaning names.now (vals_to names.now vals.now depth) def.now.value []) }
+    ensures { IfOk result (λ v. v ≡ meaning names.now (vals_to (meaning_of_val names.now) vals.now depth) def.now.value []) }
 {
     value(alloc, names, vals, &def.value, &[], depth)
 }
@@ -110,7 +112,7 @@ fn value(
     env: &[Binding],
     depth: usize,
 ) -> Result<Option<Value>, Memory>
-    ensures { IfOk result (λ v. v ≡ meaning names.now (vals_to names.now vals.now depth) exp.now env.now) }
+    ensures { IfOk result (λ v. v ≡ meaning names.now (vals_to (meaning_of_val names.now) vals.now depth) exp.now env.now) }
 {
     match exp {
         RExp::Lit(lit) => literal(alloc, names, *lit),
@@ -145,7 +147,7 @@ fn values(
     env: &[Binding],
     depth: usize,
 ) -> Result<Option<Values>, Memory>
-    ensures { IfOk result (λ vs. vs ≡ all_of (map (meaning names.now (vals_to names.now vals.now depth)) exps.now) env.now) }
+    ensures { IfOk result (λ vs. vs ≡ all_of (map (meaning names.now (vals_to (meaning_of_val names.now) vals.now depth)) exps.now) env.now) }
 {
     let mut all = Items::new(alloc);
     for exp in exps {

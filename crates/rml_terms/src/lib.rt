@@ -1,6 +1,6 @@
 //! What variables stand for, what patterns match and expressions are worth, and what is made of calls, whatever the trees in
-//! which patterns, expressions and calls are written: the words that the search over rules and clause form share. It knows no
-//! trees and no program.
+//! which patterns, expressions and calls are written. The search over rules and clause form are both said in these words, so
+//! what they make of equal parts is equal. There are no trees here, and no program.
 #![tactic(auto)]
 
 mod state;

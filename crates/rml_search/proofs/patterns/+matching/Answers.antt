@@ -1,7 +1,8 @@
 use Rattle.std.proofs.Common.{◌≡◌, ◌+◌, map, drop, sym, ap, ◌∙◌, arith}
 use Rattle.rml_value.specs.declared.value.Value.{Value}
-use Rattle.rml_search.specs.declared.state.Matched.TheVariants.{Yes}
-use Rattle.rml_search.specs.Matching.{Matcher, matching, match_list, match_chain}
+use Rattle.rml_terms.specs.declared.state.Matched.TheVariants.{Yes}
+use Rattle.rml_terms.specs.Matching.{Matcher, match_list, match_chain}
+use Rattle.rml_search.specs.Matching.{matching}
 use Rattle.rml_search.specs.Lists.{head_of}
 use Rattle.rml_search.proofs.Chains.{list_turn, chain_turn, head_matched}
 use Rattle.rml_search.proofs.patterns.+matching.Goals as goal

@@ -1,5 +1,6 @@
 use Rattle.std.proofs.Common.{◌≡◌, map, drop}
-use Rattle.rml_search.specs.Matching.{matching, match_in_turn, match_list, match_chain}
+use Rattle.rml_terms.specs.Matching.{match_in_turn, match_list, match_chain}
+use Rattle.rml_search.specs.Matching.{matching}
 use Rattle.rml_search.proofs.patterns.+matching.Given as goal
 
 abbrev pub invariant-match_each-loop-i : goal.invariant-match_each-loop-i

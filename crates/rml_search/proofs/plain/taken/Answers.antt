@@ -1,5 +1,5 @@
 use Rattle.std.proofs.Common.{ap, ◌∙◌}
-use Rattle.rml_search.specs.declared.state.Matched.{Matched}
+use Rattle.rml_terms.specs.declared.state.Matched.{Matched}
 use Rattle.rml_search.specs.Search.{from_match}
 use Rattle.rml_search.proofs.plain.taken.Goals as goal
 

@@ -1,13 +1,14 @@
 use Rattle.std.proofs.Common.{◌≡◌, ◌++◌, ◌+◌, ◌*◌, ℕ, List, map, drop, option_map, sum_by}
 use Rattle.rml_resolved.specs.Size.{exp_size, val_size}
 use Rattle.rml_resolved.specs.declared.tables.ValDef.{ValDef}
-use Rattle.rml_search.specs.Values.{all_of, meaning, vals_to}
+use Rattle.rml_terms.specs.Evaluating.{all_of, vals_to}
+use Rattle.rml_search.specs.Values.{meaning, meaning_of_val}
 use Rattle.rml_search.proofs.values.+values.Given as goal
 
 abbrev pub invariant-values-loop-exp : goal.invariant-values-loop-exp
 invariant-values-loop-exp l =
-    all_of (map (meaning l.names (vals_to l.names l.vals l.depth)) l.exps) l.env
-    ≡ option_map (λ rest. l.all ++ rest) (all_of (map (meaning l.names (vals_to l.names l.vals l.depth)) (drop l.exp-index l.exps)) l.env)
+    all_of (map (meaning l.names (vals_to (meaning_of_val l.names) l.vals l.depth)) l.exps) l.env
+    ≡ option_map (λ rest. l.all ++ rest) (all_of (map (meaning l.names (vals_to (meaning_of_val l.names) l.vals l.depth)) (drop l.exp-index l.exps)) l.env)
 
 -- more than all that is done at one depth
 abbrev room : List ValDef → ℕ

@@ -1,5 +1,5 @@
 use Rattle.std.proofs.Common.{◌≡◌, drop}
-use Rattle.rml_search.specs.Values.{look}
+use Rattle.rml_terms.specs.Env.{look}
 use Rattle.rml_search.proofs.values.find.Given as goal
 
 abbrev pub invariant-loop-bound : goal.invariant-loop-bound
