@@ -8,6 +8,9 @@ pub mod Ways
 pub mod Growing
 pub mod TermText
 pub mod Text
+pub mod Waiting
 pub mod Fits
+pub mod Ends
+pub mod Gives
 pub mod Size
 pub mod Acts

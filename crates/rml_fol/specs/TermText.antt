@@ -14,6 +14,7 @@ use Rattle.rml_fol.specs.declared.terms.Pattern.TheOpen.{Pattern-F}
 use Rattle.rml_fol.specs.declared.terms.Expression.{Expression, fold-Expression}
 use Rattle.rml_fol.specs.declared.terms.Expression.TheOpen.{Expression-F}
 use Rattle.rml_fol.specs.declared.parts.Name.{Name}
+use Rattle.rml_fol.specs.declared.parts.Constructor.{Constructor}
 use Rattle.rml_fol.specs.declared.parts.Val.{Val}
 use Rattle.rml_fol.specs.declared.parts.Relation.{Relation}
 use Rattle.rml_fol.specs.declared.parts.Parts.{Parts}
@@ -53,13 +54,13 @@ abbrev pub name_text : Name → List ℕ
 name_text n = n.of ++ 46 ∷ n.name
 
 -- nothing where the number has no name
-abbrev pub name_if_there : Option Name → List ℕ
-name_if_there None = []
-name_if_there (Some n) = name_text n
+abbrev pub constructor_name : Option Constructor → List ℕ
+constructor_name None = []
+constructor_name (Some c) = name_text c.name
 
 -- `[]` and `::` stand for themselves
 abbrev pub constructor_text : Parts → ℕ → List ℕ
-constructor_text p c = if c == NIL then codes "[]" else if c == CONS then codes "::" else name_if_there (slice_get p.cons c)
+constructor_text p c = if c == NIL then codes "[]" else if c == CONS then codes "::" else constructor_name (slice_get p.cons c)
 
 abbrev pub val_name : Option Val → List ℕ
 val_name None = []

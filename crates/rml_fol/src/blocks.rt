@@ -1,8 +1,11 @@
-//! Blocks and their statements as text. A block nested deeper than `depth` is answered as want of memory, since it would need a deep
-//! stack.
+//! Blocks and their statements as text. Blocks may be nested deeper than a stack is deep, so what is still to be written waits in a
+//! list, and is taken from it piece by piece.
 
-ghost use Rattle.std.specs.Prelude.{◌≡◌, ◌++◌, OnOk, codes, map};
-ghost use Rattle.rml_fol.specs.Text.{line, in_lines, deeper, stmt_lines, alternative_lines, case_lines};
+ghost use Rattle.std.specs.Prelude.{◌≡◌, ◌+◌, ◌*◌, ◌<◌, ◌≤◌, ◌++◌, OnOk, codes, length, map, sum_by};
+ghost use Rattle.rml_fol.specs.declared.parts.Parts.{Parts};
+ghost use Rattle.rml_fol.specs.Size.{size};
+ghost use Rattle.rml_fol.specs.Text.{line, deeper, stmt_lines};
+ghost use Rattle.rml_fol.specs.Waiting.{waiting_lines, stmts_lines, alternatives_lines, cases_lines, all_waiting_lines, work, block_work, alternatives_work, cases_work};
 
 use crate::lines::{
     write_body, write_built_in, write_call, write_case, write_equal, write_give, write_line,
@@ -13,42 +16,73 @@ use crate::statements::{Alternative, Case, Stmt};
 use rml_base::Memory;
 use std::alloc::Global;
 
-/// A block, deeper than the line that it belongs to.
-#[cycle(blocks)]
-pub fn write_block(
-    alloc: Global,
-    out: &mut Vec<u8>,
-    parts: &Parts,
-    block: &[Stmt],
-    indent: u32,
-    depth: u32,
-) -> Result<(), Memory>
-    ensures { OnOk result (out.new.items ≡ out.old.items ++ deeper (map (stmt_lines parts.now) block.now) indent) }
+/// What is still to be written, behind so many blanks.
+#[derive(Drop)]
+pub enum Waiting<'a> {
+    Stmts(&'a [Stmt], u64),
+    Alternatives(&'a [Alternative], u64),
+    Cases(&'a [Case], u64),
+    /// A line of words, and the block that is deeper than it.
+    Under(&'static [u8], &'a [Stmt], u64),
+}
+
+/// Lets this wait, to be written before what waits already.
+fn wait<'a>(next: Waiting<'a>, waiting: &mut Vec<Waiting<'a>>) -> Result<(), Memory>
+    ensures lines { OnOk result ((p : Parts) → all_waiting_lines p waiting.new.items ≡ waiting_lines p next.entry ++ all_waiting_lines p waiting.old.items) }
+    ensures work { OnOk result (sum_by work waiting.new.items ≡ work next.entry + sum_by work waiting.old.items) }
 {
-    if depth == 0 {
-        return Err(Memory);
-    }
-    let inner = indent.checked_add(2).ok_or(Memory)?;
-    for stmt in block {
-        write_stmt(alloc, out, parts, stmt, inner, depth - 1)?;
-    }
+    waiting.push(next)?;
     Ok(())
 }
 
-#[cycle(blocks)]
-fn write_stmt(
+/// Lets a block wait that is deeper than a line. That is written, so its blanks are far from too many.
+fn wait_deeper<'a>(
+    out: &Vec<u8>,
+    block: &'a [Stmt],
+    indent: u64,
+    waiting: &mut Vec<Waiting<'a>>,
+) -> Result<(), Memory>
+    requires { indent ≤ length out.now.items }
+    ensures lines { OnOk result ((p : Parts) → all_waiting_lines p waiting.new.items ≡ stmts_lines p block.now (indent + 2) ++ all_waiting_lines p waiting.old.items) }
+    ensures work { OnOk result (sum_by work waiting.new.items ≡ block_work block.now + sum_by work waiting.old.items) }
+{
+    wait(Waiting::Stmts(block, indent + 2), waiting)
+}
+
+/// The three blocks of a `cond`.
+fn write_cond<'a>(
+    out: &mut Vec<u8>,
+    first: &'a [Stmt],
+    second: &'a [Stmt],
+    third: &'a [Stmt],
+    indent: u64,
+    waiting: &mut Vec<Waiting<'a>>,
+) -> Result<(), Memory>
+    ensures lines { OnOk result ((p : Parts) → out.new.items ++ all_waiting_lines p waiting.new.items ≡ (out.old.items ++ (line indent (codes "cond") ++ deeper (map (stmt_lines p) first.now) indent ++ line indent (codes "then") ++ deeper (map (stmt_lines p) second.now) indent ++ line indent (codes "else") ++ deeper (map (stmt_lines p) third.now) indent)) ++ all_waiting_lines p waiting.old.items) }
+    ensures work { OnOk result (sum_by work waiting.new.items < 8 * (1 + sum_by size first.now + sum_by size second.now + sum_by size third.now) + sum_by work waiting.old.items) }
+{
+    write_line(out, indent, b"cond")?;
+    wait(Waiting::Under(b"else", third, indent), waiting)?;
+    wait(Waiting::Under(b"then", second, indent), waiting)?;
+    wait_deeper(out, first, indent, waiting)?;
+    Ok(())
+}
+
+/// A statement: its line, and its blocks wait.
+fn write_stmt<'a>(
     alloc: Global,
     out: &mut Vec<u8>,
     parts: &Parts,
-    stmt: &Stmt,
-    indent: u32,
-    depth: u32,
+    stmt: &'a Stmt,
+    indent: u64,
+    waiting: &mut Vec<Waiting<'a>>,
 ) -> Result<(), Memory>
-    ensures { OnOk result (out.new.items ≡ out.old.items ++ stmt_lines parts.now stmt.now indent) }
+    ensures lines { OnOk result (out.new.items ++ all_waiting_lines parts.now waiting.new.items ≡ (out.old.items ++ stmt_lines parts.now stmt.now indent) ++ all_waiting_lines parts.now waiting.old.items) }
+    ensures work { OnOk result (sum_by work waiting.new.items < 8 * size stmt.now + sum_by work waiting.old.items) }
 {
     match stmt {
-        Stmt::Match(x, pattern) => write_match(alloc, out, parts, indent, *x, pattern, depth),
-        Stmt::Set(x, expression) => write_set(alloc, out, parts, indent, *x, expression, depth),
+        Stmt::Match(x, pattern) => write_match(alloc, out, parts, indent, *x, pattern),
+        Stmt::Set(x, expression) => write_set(alloc, out, parts, indent, *x, expression),
         Stmt::Call(callee, xs, ys) => {
             write_call(
                 alloc,
@@ -66,33 +100,36 @@ fn write_stmt(
         Stmt::Equal(x, y) => write_equal(alloc, out, indent, *x, *y),
         Stmt::Not(block) => {
             write_line(out, indent, b"not")?;
-            write_block(alloc, out, parts, block.as_slice(), indent, depth)
+            wait_deeper(out, block.as_slice(), indent, waiting)
         }
         Stmt::Or(alternatives) => {
             write_line(out, indent, b"or")?;
-            write_alternatives(alloc, out, parts, alternatives.as_slice(), indent, depth)
+            wait(
+                Waiting::Alternatives(alternatives.as_slice(), indent),
+                waiting,
+            )
         }
         Stmt::Cond(first, second, third) => {
-            write_under(alloc, out, parts, b"cond", first.as_slice(), indent, depth)?;
-            write_under(alloc, out, parts, b"then", second.as_slice(), indent, depth)?;
-            write_under(alloc, out, parts, b"else", third.as_slice(), indent, depth)
+            write_cond(
+                out,
+                first.as_slice(),
+                second.as_slice(),
+                third.as_slice(),
+                indent,
+                waiting,
+            )
         }
         Stmt::Switch(x, cases, otherwise) => {
             write_switch(alloc, out, indent, *x)?;
-            write_cases(alloc, out, parts, cases.as_slice(), indent, depth)?;
-            write_under(
-                alloc,
-                out,
-                parts,
-                b"else",
-                otherwise.as_slice(),
-                indent,
-                depth,
-            )
+            wait(
+                Waiting::Under(b"else", otherwise.as_slice(), indent),
+                waiting,
+            )?;
+            wait(Waiting::Cases(cases.as_slice(), indent), waiting)
         }
         Stmt::Body(j, xs, block) => {
             write_body(alloc, out, indent, b"body ", *j, xs.as_slice())?;
-            write_block(alloc, out, parts, block.as_slice(), indent, depth)
+            wait_deeper(out, block.as_slice(), indent, waiting)
         }
         Stmt::Goto(j, xs) => write_body(alloc, out, indent, b"goto ", *j, xs.as_slice()),
         Stmt::Give(xs) => write_give(alloc, out, indent, xs.as_slice()),
@@ -100,90 +137,111 @@ fn write_stmt(
     }
 }
 
-/// A block under a line of words.
-#[cycle(blocks)]
-fn write_under(
+/// The first of some statements, and the others wait.
+fn write_first_stmt<'a>(
     alloc: Global,
     out: &mut Vec<u8>,
     parts: &Parts,
-    words: &[u8],
-    block: &[Stmt],
-    indent: u32,
-    depth: u32,
+    stmts: &'a [Stmt],
+    indent: u64,
+    waiting: &mut Vec<Waiting<'a>>,
 ) -> Result<(), Memory>
-    ensures { OnOk result (out.new.items ≡ out.old.items ++ (line indent words.now ++ deeper (map (stmt_lines parts.now) block.now) indent)) }
+    ensures lines { OnOk result (out.new.items ++ all_waiting_lines parts.now waiting.new.items ≡ (out.old.items ++ stmts_lines parts.now stmts.now indent) ++ all_waiting_lines parts.now waiting.old.items) }
+    ensures work { OnOk result (sum_by work waiting.new.items < block_work stmts.now + sum_by work waiting.old.items) }
 {
-    write_line(out, indent, words)?;
-    write_block(alloc, out, parts, block, indent, depth)
+    match stmts {
+        [] => Ok(()),
+        [first, rest @ ..] => {
+            wait(Waiting::Stmts(rest, indent), waiting)?;
+            write_stmt(alloc, out, parts, first, indent, waiting)
+        }
+    }
 }
 
-#[cycle(blocks)]
-fn write_alternatives(
+/// The first of some alternatives, and the others wait.
+fn write_first_alternative<'a>(
+    out: &mut Vec<u8>,
+    alternatives: &'a [Alternative],
+    indent: u64,
+    waiting: &mut Vec<Waiting<'a>>,
+) -> Result<(), Memory>
+    ensures lines { OnOk result ((p : Parts) → out.new.items ++ all_waiting_lines p waiting.new.items ≡ (out.old.items ++ alternatives_lines p alternatives.now indent) ++ all_waiting_lines p waiting.old.items) }
+    ensures work { OnOk result (sum_by work waiting.new.items < alternatives_work alternatives.now + sum_by work waiting.old.items) }
+{
+    match alternatives {
+        [] => Ok(()),
+        [first, rest @ ..] => {
+            wait(Waiting::Alternatives(rest, indent), waiting)?;
+            write_line(out, indent, b"alt")?;
+            wait_deeper(out, first.block.as_slice(), indent, waiting)
+        }
+    }
+}
+
+/// The first of some cases, and the others wait.
+fn write_first_case<'a>(
     alloc: Global,
     out: &mut Vec<u8>,
     parts: &Parts,
-    alternatives: &[Alternative],
-    indent: u32,
-    depth: u32,
+    cases: &'a [Case],
+    indent: u64,
+    waiting: &mut Vec<Waiting<'a>>,
 ) -> Result<(), Memory>
-    ensures { OnOk result (out.new.items ≡ out.old.items ++ in_lines (map (alternative_lines parts.now) alternatives.now) indent) }
+    ensures lines { OnOk result (out.new.items ++ all_waiting_lines parts.now waiting.new.items ≡ (out.old.items ++ cases_lines parts.now cases.now indent) ++ all_waiting_lines parts.now waiting.old.items) }
+    ensures work { OnOk result (sum_by work waiting.new.items < cases_work cases.now + sum_by work waiting.old.items) }
 {
-    for alternative in alternatives {
-        write_alternative(alloc, out, parts, alternative, indent, depth)?;
+    match cases {
+        [] => Ok(()),
+        [first, rest @ ..] => {
+            wait(Waiting::Cases(rest, indent), waiting)?;
+            write_case(alloc, out, parts, indent, &first.tag, first.vars.as_slice())?;
+            wait_deeper(out, first.block.as_slice(), indent, waiting)
+        }
+    }
+}
+
+/// What comes next.
+fn write_next<'a>(
+    alloc: Global,
+    out: &mut Vec<u8>,
+    parts: &Parts,
+    next: Waiting<'a>,
+    waiting: &mut Vec<Waiting<'a>>,
+) -> Result<(), Memory>
+    ensures lines { OnOk result (out.new.items ++ all_waiting_lines parts.now waiting.new.items ≡ (out.old.items ++ waiting_lines parts.now next.entry) ++ all_waiting_lines parts.now waiting.old.items) }
+    ensures work { OnOk result (sum_by work waiting.new.items < work next.entry + sum_by work waiting.old.items) }
+{
+    match next {
+        Waiting::Stmts(stmts, indent) => {
+            write_first_stmt(alloc, out, parts, stmts, indent, waiting)
+        }
+        Waiting::Alternatives(alternatives, indent) => {
+            write_first_alternative(out, alternatives, indent, waiting)
+        }
+        Waiting::Cases(cases, indent) => write_first_case(
+            alloc, out, parts, cases, indent, waiting,
+        ),
+        Waiting::Under(words, block, indent) => {
+            write_line(out, indent, words)?;
+            wait_deeper(out, block, indent, waiting)
+        }
+    }
+}
+
+/// Statements behind so many blanks, with the blocks inside them.
+pub fn write_stmts(
+    alloc: Global,
+    out: &mut Vec<u8>,
+    parts: &Parts,
+    stmts: &[Stmt],
+    indent: u64,
+) -> Result<(), Memory>
+    ensures { OnOk result (out.new.items ≡ out.old.items ++ stmts_lines parts.now stmts.now indent) }
+{
+    let mut waiting = Vec::new(alloc);
+    waiting.push(Waiting::Stmts(stmts, indent))?;
+    while let Some(next) = waiting.pop() {
+        write_next(alloc, out, parts, next, &mut waiting)?;
     }
     Ok(())
-}
-
-#[cycle(blocks)]
-fn write_alternative(
-    alloc: Global,
-    out: &mut Vec<u8>,
-    parts: &Parts,
-    alternative: &Alternative,
-    indent: u32,
-    depth: u32,
-) -> Result<(), Memory>
-    ensures { OnOk result (out.new.items ≡ out.old.items ++ alternative_lines parts.now alternative.now indent) }
-{
-    write_line(out, indent, b"alt")?;
-    write_block(
-        alloc,
-        out,
-        parts,
-        alternative.block.as_slice(),
-        indent,
-        depth,
-    )
-}
-
-#[cycle(blocks)]
-fn write_cases(
-    alloc: Global,
-    out: &mut Vec<u8>,
-    parts: &Parts,
-    cases: &[Case],
-    indent: u32,
-    depth: u32,
-) -> Result<(), Memory>
-    ensures { OnOk result (out.new.items ≡ out.old.items ++ in_lines (map (case_lines parts.now) cases.now) indent) }
-{
-    for case in cases {
-        write_one_case(alloc, out, parts, case, indent, depth)?;
-    }
-    Ok(())
-}
-
-#[cycle(blocks)]
-fn write_one_case(
-    alloc: Global,
-    out: &mut Vec<u8>,
-    parts: &Parts,
-    case: &Case,
-    indent: u32,
-    depth: u32,
-) -> Result<(), Memory>
-    ensures { OnOk result (out.new.items ≡ out.old.items ++ case_lines parts.now case.now indent) }
-{
-    write_case(alloc, out, parts, indent, &case.tag, case.vars.as_slice())?;
-    write_block(alloc, out, parts, case.block.as_slice(), indent, depth)
 }

@@ -1,9 +1,11 @@
 //! Programs in clause form.
 
-ghost use Rattle.std.specs.Prelude.{◌≡◌, ◌<◌, IsTrue, length};
+ghost use Rattle.std.specs.Prelude.{◌≡◌, IsTrue, slice_get};
 ghost use Rattle.std.specs.List.{list_all};
 ghost use Rattle.rml_base.specs.Light.{NoWrong};
-ghost use Rattle.rml_fol.specs.Fits.{counts_of, val_fits, relation_fits};
+ghost use Rattle.rml_fol.specs.Fits.{signatures_of, val_fits, relation_fits, main_fits as takes_the_arguments, cons_begin, con_is_small, names_are_bytes as named_by_bytes};
+ghost use Rattle.rml_fol.specs.Ends.{relation_ends};
+ghost use Rattle.rml_fol.specs.Gives.{relation_gives};
 ghost use Rattle.rml_fol.specs.Size.{relation_is_small, is_light};
 ghost use Rattle.rml_fol.specs.Runs.{runs_of};
 
@@ -13,10 +15,20 @@ use crate::parts::Parts;
 #[derive(Drop)]
 pub struct Fol {
     pub parts: Parts,
-    // numbers lead into their tables, and variables and bodies are those of their relation
-    pub ghost vals_fit: { IsTrue (list_all (val_fits (counts_of parts)) parts.vals) },
-    pub ghost relations_fit: { IsTrue (list_all (relation_fits (counts_of parts)) parts.rels) },
-    pub ghost main_fits: { parts.main < length parts.rels },
+    // what the text has as a name is a byte string
+    pub ghost names_are_bytes: { IsTrue (named_by_bytes parts) },
+    // the constructors begin with those of lists, truth values and options, and none has `CON_ARGUMENTS` arguments
+    pub ghost cons_first: { IsTrue (cons_begin parts.cons) },
+    pub ghost cons_small: { IsTrue (list_all con_is_small parts.cons) },
+    // numbers lead into their tables, variables and bodies are those of their relation, and constructors, relations and built-ins
+    // have as many arguments and results as they are declared with
+    pub ghost vals_fit: { IsTrue (list_all (val_fits (signatures_of parts)) parts.vals) },
+    pub ghost relations_fit: { IsTrue (list_all (relation_fits (signatures_of parts)) parts.rels) },
+    pub ghost main_fits: { IsTrue (takes_the_arguments parts.gives (slice_get (signatures_of parts).rels parts.main)) },
+    // a block ends in a choice, `goto`, `give` or `fail`, and has none of these before its end
+    pub ghost blocks_end: { IsTrue (list_all relation_ends parts.rels) },
+    // a `give` hands over as many values as its relation gives, and in a `not` none
+    pub ghost gives_fit: { IsTrue (list_all relation_gives parts.rels) },
     // a relation has no more statements, variables and bodies than `PER_TOKEN` for each token of its rules, and all of them together
     // weigh less than `WEIGHT`
     pub ghost relations_small: { IsTrue (list_all relation_is_small parts.rels) },

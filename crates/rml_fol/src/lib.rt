@@ -20,10 +20,10 @@ mod words;
 
 pub use body::Body;
 pub use fol::Fol;
-pub use parts::{Name, Parts, Relation, Val};
+pub use parts::{Constructor, Name, Parts, Relation, Val};
 pub use statements::{Alternative, Block, Callee, Case, Stmt, Tag, Vars};
 pub use terms::{Expression, Literal, Pattern};
-pub use text::{MOST_NESTED, print, print_parts};
+pub use text::{print, print_parts};
 
 #[cfg(test)]
 mod tests;

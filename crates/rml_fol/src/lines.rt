@@ -1,11 +1,12 @@
 //! The lines of statements that have no block.
 
-ghost use Rattle.std.specs.Prelude.{◌≡◌, ◌∷◌, ◌++◌, OnOk, codes, replicate, slice_get};
+ghost use Rattle.std.specs.Prelude.{◌≡◌, ◌≤◌, ◌∷◌, ◌++◌, OnOk, codes, length, replicate, slice_get};
 ghost use Rattle.rml_builtin.specs.declared.row.TheConstants.{ROWS};
 ghost use Rattle.rml_fol.specs.TermText.{variable_text, variables_text, pattern_text, expression_text};
 ghost use Rattle.rml_fol.specs.Text.{line, callee_text, row_name as name_of_row, passed_text, tag_text, body_text, case_text};
 
 use crate::expressions::write_expression;
+use crate::limits::MOST_NESTED;
 use crate::parts::Parts;
 use crate::patterns::write_pattern;
 use crate::statements::{Callee, Tag};
@@ -16,21 +17,31 @@ use crate::words::{
 };
 use rml_base::Memory;
 use rml_builtin::{ROWS, builtin};
-use rml_escapes::write_repeated;
 use std::alloc::Global;
 
-/// The blanks before a line, and the words that it begins with.
-pub fn begin_line(out: &mut Vec<u8>, indent: u32, words: &[u8]) -> Result<(), Memory>
-    ensures { OnOk result (out.new.items ≡ out.old.items ++ (replicate indent 32 ++ words.now)) }
+fn write_blanks(out: &mut Vec<u8>, count: u64) -> Result<(), Memory>
+    ensures { OnOk result (out.new.items ≡ out.old.items ++ replicate count 32) }
 {
-    write_repeated(out, indent, b' ')?;
+    for _done in 0..count {
+        out.push(b' ')?;
+    }
+    Ok(())
+}
+
+/// The blanks before a line, and the words that it begins with.
+pub fn begin_line(out: &mut Vec<u8>, indent: u64, words: &[u8]) -> Result<(), Memory>
+    ensures text { OnOk result (out.new.items ≡ out.old.items ++ (replicate indent 32 ++ words.now)) }
+    ensures blanks { OnOk result (indent ≤ length out.new.items) }
+{
+    write_blanks(out, indent)?;
     out.extend_from_slice(words)?;
     Ok(())
 }
 
 /// A line of words alone.
-pub fn write_line(out: &mut Vec<u8>, indent: u32, words: &[u8]) -> Result<(), Memory>
-    ensures { OnOk result (out.new.items ≡ out.old.items ++ line indent words.now) }
+pub fn write_line(out: &mut Vec<u8>, indent: u64, words: &[u8]) -> Result<(), Memory>
+    ensures text { OnOk result (out.new.items ≡ out.old.items ++ line indent words.now) }
+    ensures blanks { OnOk result (indent ≤ length out.new.items) }
 {
     begin_line(out, indent, words)?;
     out.push(b'\n')?;
@@ -41,17 +52,16 @@ pub fn write_match(
     alloc: Global,
     out: &mut Vec<u8>,
     parts: &Parts,
-    indent: u32,
+    indent: u64,
     x: u32,
     pattern: &Pattern,
-    depth: u32,
 ) -> Result<(), Memory>
     ensures { OnOk result (out.new.items ≡ out.old.items ++ line indent (codes "match " ++ variable_text x ++ 32 ∷ pattern_text parts.now pattern.now)) }
 {
     begin_line(out, indent, b"match ")?;
     write_variable(alloc, out, x)?;
     out.push(b' ')?;
-    write_pattern(alloc, out, parts, pattern, depth)?;
+    write_pattern(alloc, out, parts, pattern, MOST_NESTED)?;
     out.push(b'\n')?;
     Ok(())
 }
@@ -60,17 +70,16 @@ pub fn write_set(
     alloc: Global,
     out: &mut Vec<u8>,
     parts: &Parts,
-    indent: u32,
+    indent: u64,
     x: u32,
     expression: &Expression,
-    depth: u32,
 ) -> Result<(), Memory>
     ensures { OnOk result (out.new.items ≡ out.old.items ++ line indent (codes "set " ++ variable_text x ++ 32 ∷ expression_text parts.now expression.now)) }
 {
     begin_line(out, indent, b"set ")?;
     write_variable(alloc, out, x)?;
     out.push(b' ')?;
-    write_expression(alloc, out, parts, expression, depth)?;
+    write_expression(alloc, out, parts, expression, MOST_NESTED)?;
     out.push(b'\n')?;
     Ok(())
 }
@@ -105,7 +114,7 @@ pub fn write_call(
     alloc: Global,
     out: &mut Vec<u8>,
     parts: &Parts,
-    indent: u32,
+    indent: u64,
     callee: Callee,
     xs: &[u32],
     ys: &[u32],
@@ -133,7 +142,7 @@ fn row_name(number: u16) -> &'static [u8]
 pub fn write_built_in(
     alloc: Global,
     out: &mut Vec<u8>,
-    indent: u32,
+    indent: u64,
     number: u16,
     xs: &[u32],
     ys: &[u32],
@@ -150,7 +159,7 @@ pub fn write_built_in(
 pub fn write_equal(
     alloc: Global,
     out: &mut Vec<u8>,
-    indent: u32,
+    indent: u64,
     x: u32,
     y: u32,
 ) -> Result<(), Memory>
@@ -164,8 +173,9 @@ pub fn write_equal(
     Ok(())
 }
 
-pub fn write_switch(alloc: Global, out: &mut Vec<u8>, indent: u32, x: u32) -> Result<(), Memory>
-    ensures { OnOk result (out.new.items ≡ out.old.items ++ line indent (codes "switch " ++ variable_text x)) }
+pub fn write_switch(alloc: Global, out: &mut Vec<u8>, indent: u64, x: u32) -> Result<(), Memory>
+    ensures text { OnOk result (out.new.items ≡ out.old.items ++ line indent (codes "switch " ++ variable_text x)) }
+    ensures blanks { OnOk result (indent ≤ length out.new.items) }
 {
     begin_line(out, indent, b"switch ")?;
     write_variable(alloc, out, x)?;
@@ -186,11 +196,12 @@ pub fn write_case(
     alloc: Global,
     out: &mut Vec<u8>,
     parts: &Parts,
-    indent: u32,
+    indent: u64,
     tag: &Tag,
     xs: &[u32],
 ) -> Result<(), Memory>
-    ensures { OnOk result (out.new.items ≡ out.old.items ++ line indent (case_text parts.now tag.now xs.now)) }
+    ensures text { OnOk result (out.new.items ≡ out.old.items ++ line indent (case_text parts.now tag.now xs.now)) }
+    ensures blanks { OnOk result (indent ≤ length out.new.items) }
 {
     begin_line(out, indent, b"case ")?;
     write_tag(alloc, out, parts, tag)?;
@@ -203,12 +214,13 @@ pub fn write_case(
 pub fn write_body(
     alloc: Global,
     out: &mut Vec<u8>,
-    indent: u32,
+    indent: u64,
     words: &[u8],
     j: u32,
     xs: &[u32],
 ) -> Result<(), Memory>
-    ensures { OnOk result (out.new.items ≡ out.old.items ++ line indent (words.now ++ body_text j xs.now)) }
+    ensures text { OnOk result (out.new.items ≡ out.old.items ++ line indent (words.now ++ body_text j xs.now)) }
+    ensures blanks { OnOk result (indent ≤ length out.new.items) }
 {
     begin_line(out, indent, words)?;
     out.push(b'j')?;
@@ -218,7 +230,7 @@ pub fn write_body(
     Ok(())
 }
 
-pub fn write_give(alloc: Global, out: &mut Vec<u8>, indent: u32, xs: &[u32]) -> Result<(), Memory>
+pub fn write_give(alloc: Global, out: &mut Vec<u8>, indent: u64, xs: &[u32]) -> Result<(), Memory>
     ensures { OnOk result (out.new.items ≡ out.old.items ++ line indent (codes "give" ++ variables_text xs.now)) }
 {
     begin_line(out, indent, b"give")?;

@@ -12,6 +12,14 @@ pub struct Name {
     pub name: Bytes,
 }
 
+/// A constructor.
+#[derive(Drop)]
+pub struct Constructor {
+    pub name: Name,
+    /// How many arguments it has.
+    pub arity: u32,
+}
+
 /// A val.
 #[derive(Drop)]
 pub struct Val {
@@ -39,8 +47,9 @@ pub struct Relation {
 /// The tables of a program in clause form, whatever they hold.
 #[derive(Drop)]
 pub struct Parts {
-    /// The names of the constructors, by their numbers; `[]` and `::` have the first two, and stand for themselves.
-    pub cons: Items<Name>,
+    /// `[]`, `::`, `false`, `true`, `NONE` and `SOME` have the first numbers; of these the text has `[]` and `::` as they are, and not
+    /// their names.
+    pub cons: Items<Constructor>,
     pub vals: Items<Val>,
     pub rels: Items<Relation>,
     /// The number of the relation that a run calls.

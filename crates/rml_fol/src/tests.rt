@@ -1,7 +1,7 @@
 //! Bodies built by hand, and their text as written by hand.
 
 use crate::{
-    Alternative, Block, Body, Callee, Case, Expression, Literal, MOST_NESTED, Name, Parts, Pattern,
+    Alternative, Block, Body, Callee, Case, Constructor, Expression, Literal, Name, Parts, Pattern,
     Relation, Stmt, Tag, Val, Vars, print_parts,
 };
 use rml_base::{Bytes, Memory};
@@ -36,19 +36,22 @@ fn two<T: Drop>(alloc: Global, first: T, second: T) -> Result<Items<T>, Memory> 
     Ok(items)
 }
 
-fn cons(alloc: Global) -> Result<Items<Name>, Memory> {
+const CONS: [(&str, &str, u32); 7] = [
+    ("rml", "nil", 0),
+    ("rml", "::", 2),
+    ("rml", "false", 0),
+    ("rml", "true", 0),
+    ("rml", "NONE", 0),
+    ("rml", "SOME", 1),
+    ("m", "PAIR", 2),
+];
+
+fn cons(alloc: Global) -> Result<Items<Constructor>, Memory> {
     let mut cons = Items::new(alloc);
-    for known in [
-        b"nil".as_slice(),
-        b"cons",
-        b"false",
-        b"true",
-        b"NONE",
-        b"SOME",
-    ] {
-        cons.push(name(alloc, b"rml", known)?)?;
+    for (of, known, arity) in CONS {
+        let name = name(alloc, of.as_bytes(), known.as_bytes())?;
+        cons.push(Constructor { name, arity })?;
     }
-    cons.push(name(alloc, b"m", b"PAIR")?)?;
     Ok(cons)
 }
 
@@ -186,22 +189,18 @@ fn nested(alloc: Global, levels: u32) -> Result<Block, Memory> {
 fn deep_bodies_are_dropped(rt: HostRuntime) -> Result<(), Fail> {
     let alloc = rt.alloc();
     let parts = with_body(alloc, 0, 0, nested(alloc, 100_000)?)?;
-    // too deep to be printed, which is told before the stack runs out
-    assert!(rt; print_parts(alloc, &parts).is_err());
+    assert_eq!(rt; parts.rels.len(), 1);
     Ok(())
 }
 
 #[test]
 fn deep_bodies_are_printed(rt: HostRuntime) -> Result<(), Fail> {
     let alloc = rt.alloc();
-    let levels = MOST_NESTED - 1;
-    let parts = with_body(alloc, 0, 0, nested(alloc, levels)?)?;
+    let parts = with_body(alloc, 0, 0, nested(alloc, 4096)?)?;
     let text = print_parts(alloc, &parts)?;
-    // two lines a level, each two blanks deeper; the head, and the last line
-    let expected = 2 * 1499 * 1500 + 7 * 1499 + 22 + 3005;
+    // two lines a level, `or` and `alt`, each level two blanks deeper; before them the head, and behind them `fail`
+    let expected = 22 + 4096 * (3 + 4) + 2 * 4096 * 4097 + 2 * 4097 + 5;
     assert_eq!(rt; text.len(), expected);
-    let parts = with_body(alloc, 0, 0, nested(alloc, MOST_NESTED)?)?;
-    assert!(rt; print_parts(alloc, &parts).is_err());
     Ok(())
 }
 

@@ -3,17 +3,15 @@
 ghost use Rattle.std.specs.Prelude.{◌≡◌, ◌++◌, IfOk, OnOk};
 ghost use Rattle.rml_fol.specs.Text.{lines_from, parameters_text, val_line, head_line, relation_lines, text_of};
 
-use crate::blocks::write_block;
+use crate::blocks::write_stmts;
 use crate::expressions::write_expression;
 use crate::fol::Fol;
+use crate::limits::MOST_NESTED;
 use crate::lines::begin_line;
 use crate::parts::{Parts, Relation, Val};
 use crate::words::{separate, write_name, write_number, write_variable};
 use rml_base::Memory;
 use std::alloc::Global;
-
-/// How deep blocks, patterns and expressions may nest that are printed: below this the stack is known to suffice.
-pub const MOST_NESTED: u32 = 1500;
 
 fn write_val(
     alloc: Global,
@@ -81,14 +79,7 @@ fn write_relation(
     ensures { OnOk result (out.new.items ≡ out.old.items ++ relation_lines parts.now number relation.now) }
 {
     write_head(alloc, out, number, relation)?;
-    write_block(
-        alloc,
-        out,
-        parts,
-        relation.body.stmts.as_slice(),
-        0,
-        MOST_NESTED,
-    )
+    write_stmts(alloc, out, parts, relation.body.stmts.as_slice(), 2)
 }
 
 fn write_relations(alloc: Global, out: &mut Vec<u8>, parts: &Parts) -> Result<(), Memory>
@@ -100,7 +91,8 @@ fn write_relations(alloc: Global, out: &mut Vec<u8>, parts: &Parts) -> Result<()
     Ok(())
 }
 
-/// The text of tables in clause form, whatever they hold. What nests deeper than `MOST_NESTED` is answered as want of memory.
+/// The text of tables in clause form, whatever they hold. A pattern or an expression that nests deeper than `MOST_NESTED` is answered as
+/// want of memory.
 pub fn print_parts(alloc: Global, parts: &Parts) -> Result<Vec<u8>, Memory>
     ensures { IfOk result (λ text. text.items ≡ text_of parts.now) }
 {
@@ -110,7 +102,8 @@ pub fn print_parts(alloc: Global, parts: &Parts) -> Result<Vec<u8>, Memory>
     Ok(out)
 }
 
-/// The text of a program in clause form. The only error is want of memory; what nests deeper than `MOST_NESTED` is answered so too.
+/// The text of a program in clause form. The only error is want of memory; a pattern or an expression that nests deeper than
+/// `MOST_NESTED` is answered so too.
 pub fn print(alloc: Global, fol: &Fol) -> Result<Vec<u8>, Memory>
     ensures { IfOk result (λ text. text.items ≡ text_of fol.now.parts) }
 {

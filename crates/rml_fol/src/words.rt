@@ -91,7 +91,7 @@ pub fn write_constructor(out: &mut Vec<u8>, parts: &Parts, c: u32) -> Result<(),
     }
     match at(parts.cons.as_slice(), c as usize) {
         None => Ok(()),
-        Some(name) => write_name(out, name),
+        Some(constructor) => write_name(out, &constructor.name),
     }
 }
 
