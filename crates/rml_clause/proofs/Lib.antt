@@ -1,1 +1,16 @@
 pub mod Carried
+pub mod Environments
+pub mod Terms
+pub mod Budget
+pub mod Steps
+pub mod Premises
+pub mod Rules
+pub mod Narrowness
+pub mod Programs
+pub mod Adding
+pub mod Rows
+pub mod Forms
+pub mod Blocks
+pub mod MadePremises
+pub mod Returned
+pub mod Passed

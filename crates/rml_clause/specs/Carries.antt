@@ -12,7 +12,8 @@ use Rattle.rml_resolved.specs.declared.program.Program.{Program}
 use Rattle.rml_resolved.specs.declared.tables.RelDef.{RelDef}
 use Rattle.rml_resolved.specs.declared.tables.RRule.{RRule}
 use Rattle.rml_search.specs.Context.{Context}
-use Rattle.rml_search.specs.Search.{RelationCalls, try}
+use Rattle.rml_terms.specs.Calling.{RelationCalls}
+use Rattle.rml_search.specs.Search.{try}
 use Rattle.rml_search.specs.Whole.{context_of}
 use Rattle.rml_fol.specs.declared.parts.Parts.{Parts}
 use Rattle.rml_fol.specs.declared.parts.Relation.{Relation}

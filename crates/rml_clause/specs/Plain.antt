@@ -2,7 +2,7 @@
 -- in order, the sets of the results and one `give`. A premise has the sets of its expressions, its own statement and the matches of its
 -- patterns. An expression that is a variable has no set; a `let` has no statement of its own; goals in brackets are their premises in
 -- order; and the block of a `not` is its goal in this form and `give()`. Which variables hold what is set and received is left open.
-use Rattle.std.specs.Prelude.{◌≡◌, ℕ, suc, zero, ◌+◌, List, [], ◌∷◌, ◌++◌, map, length, slice_index_or}
+use Rattle.std.specs.Prelude.{◌≡◌, ℕ, suc, zero, ◌+◌, List, [], ◌∷◌, ◌++◌, slice_index_or}
 use Rattle.rml_syntax.specs.declared.token.Lit.{Lit}
 use Rattle.rml_syntax.specs.declared.token.Lit.TheVariants as lit
 use Rattle.rml_resolved.specs.declared.trees.RPat.{RPat, fold-RPat}

@@ -1,5 +1,10 @@
-//! From rules to clauses: what the pass is to make of a relation, what it says of it, and the law that lifts this to programs. The pass
-//! itself is not here yet.
+//! From rules to clauses: the pass, what it is to make of a relation and what it says of it, and the law that lifts this to programs.
 #![tactic(auto)]
 
 pub mod laws;
+mod pass;
+
+pub use pass::{Clauses, clauses_of_relation};
+
+#[cfg(test)]
+mod tests;
