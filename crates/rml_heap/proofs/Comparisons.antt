@@ -52,7 +52,7 @@ IsMade form.ConsBlock vs v = v ≡ value.Con CONS vs
 IsMade (form.Vector n) vs v = v ≡ value.Vector vs
 IsMade _ vs v = ⊥
 
-block-made : (depth : ℕ) (cells : List Cell) (names : List ℕ) (at : ℕ) (head : Form) (v : Value) → head ≢ form.Lvar
+pub block-made : (depth : ℕ) (cells : List Cell) (names : List ℕ) (at : ℕ) (head : Form) (v : Value) → head ≢ form.Lvar
     → block_value (value_below depth cells names at) names at head (looks cells (suc at) (parts_of head)) ≡ Some v
     → (vs : List Value) × AllStand cells names at (looks cells (suc at) (parts_of head)) vs × IsMade head vs v
 block-made depth cells names at (form.Text n) v other h =

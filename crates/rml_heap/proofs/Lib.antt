@@ -7,3 +7,4 @@ pub mod Comparisons
 pub mod Told
 pub mod Tasks
 pub mod Packing
+pub mod Callers

@@ -90,7 +90,7 @@ word-bytes bytes each =
     ap (to_le_bytes w64) (of_z-to_z w64 (from_le_bytes w64 bytes) (word-fits bytes each))
     ∙ le_bytes_8 (eight bytes) (from_le_bytes w64 bytes) (length-eight bytes) (eight-bytes bytes each) (word-same bytes (eight bytes) (λ i below. sym (eight-at bytes i below)))
 
-each-drop : (n : ℕ) (bytes : List ℕ) → EachByte bytes → EachByte (drop n bytes)
+pub each-drop : (n : ℕ) (bytes : List ℕ) → EachByte bytes → EachByte (drop n bytes)
 each-drop n bytes each i = let e = get_or-drop n bytes i 0 in let b = each (n + i) in omega (arith, e, b)
 
 unpacked : (w : ℕ) (bytes : List ℕ) → EachByte bytes → length bytes ≤ 8 * w → take (length bytes) (flat_map bytes_of_word (packed w bytes)) ≡ bytes
@@ -133,3 +133,7 @@ text-read bytes each =
     let enough : n ≤ 8 * words_for n = omega arith in
     let back : take n (flat_map bytes_of_word words) ≡ bytes = unpacked (words_for n) bytes each enough in
     ap (λ bs. if same_words (packed (words_for n) bs) words then Some bs else None) back ∙ ap (λ b. if b then Some bytes else None) (same-self words)
+
+-- a byte of the word of some bytes
+pub word-byte : (bytes : List ℕ) → EachByte bytes → (i : ℕ) → i < 8 → get_or (bytes_of_word (word_of_bytes bytes)) i 0 ≡ get_or bytes i 0
+word-byte bytes each i below = ap (λ bs. get_or bs i 0) (word-bytes bytes each) ∙ eight-at bytes i below

@@ -161,7 +161,7 @@ pub same-join : (cells : List Cell) (names : List ℕ) (ts us : List Task) → A
 same-join cells names [] us h k = k
 same-join cells names (t ∷ ts) us h k = (h.0, same-join cells names ts us h.1 k)
 
-all-higher : (cells : List Cell) (names : List ℕ) (low top : ℕ) (cs : List Cell) (vs : List Value) → low ≤ top → AllStand cells names low cs vs → AllStand cells names top cs vs
+pub all-higher : (cells : List Cell) (names : List ℕ) (low top : ℕ) (cs : List Cell) (vs : List Value) → low ≤ top → AllStand cells names low cs vs → AllStand cells names top cs vs
 all-higher cells names low top [] [] le h = tt
 all-higher cells names low top [] (v ∷ vs) le h = h
 all-higher cells names low top (c ∷ cs) [] le h = h

@@ -9,7 +9,7 @@ use Rattle.rml_heap.specs.HeapState.{unset_cell}
 use Rattle.rml_heap.specs.Form as form
 use Rattle.rml_heap.specs.Form.{Form, IsWord, form_of}
 use Rattle.rml_heap.specs.Reading.{cell_at, look}
-use Rattle.rml_heap.proofs.Kept.{look-below, look-content}
+use Rattle.rml_heap.proofs.Callers.{look-below, look-content}
 use Rattle.rml_trail.specs.TrailState.{IsContent, IsSet, unset_all}
 use Rattle.rml_trail.specs.Future.{Store, Future}
 use Rattle.rml_trail.proofs.Trails.{unset_all-push, length_unset_all, unset-no_head, word-no_head, value-inside}

@@ -1,2 +1,3 @@
 pub mod Trails
 pub mod Futures
+pub mod Callers

@@ -1,0 +1,17 @@
+pub mod PlainCells
+pub mod Arguments
+pub mod Calculations
+pub mod Blocks
+pub mod Bindings
+pub mod VariableCells
+pub mod VectorCells
+pub mod Running
+pub mod VariableRows
+pub mod PlacedCells
+pub mod MadeTexts
+pub mod MadeLists
+pub mod Premises
+pub mod ListCells
+pub mod MadeVectors
+pub mod TextCells
+pub mod SpelledLists

@@ -1,0 +1,35 @@
+use Rattle.std.proofs.Common.{◌≡◌, ℕ, Option, Some, None, get_or, ap, subst, sym, ◌∙◌, rules}
+use Rattle.std.specs.Prelude.{pos}
+use Rattle.std.specs.Int.{w64}
+use Rattle.std.specs.Option.{option_map}
+use Rattle.std.proofs.lemmas.Int.{to_z-of_z}
+use mir.Val.{to_z, of_z}
+use Rattle.rml_heap.specs.declared.cell.Cell.{Cell}
+use Rattle.rml_builtin.specs.declared.row.Row.TheVariants.{IntChar}
+use Rattle.rml_prims.specs.Shapes.{OneInt, char_cell}
+use Rattle.rml_prims.specs.Calculated.{char_numbered}
+use Rattle.rml_prims.specs.Found.{Finds}
+use Rattle.rml_prims.proofs.Calculations.{char-finds, int-read}
+use Rattle.rml_prims.proofs.finding.character.Goals as goal
+
+pub returns-in-Some : goal.returns-in-Some
+returns-in-Some c =
+    let t : OneInt c.args.inputs.now = c.requires in
+    let d : Cell = record { kind = 0; number = pos 0 } in
+    let first : to_z w64 (of_z w64 (get_or c.args.inputs.now 0 d).number) ≡ t.n = to_z-of_z w64 (get_or c.args.inputs.now 0 d).number (search rules) ∙ int-read c.args.inputs.now t d in
+    let value : Some c.in-Some.c ≡ char_numbered t.n = rw first at c.in-Some.ensures in
+    let cell : c.char.result ≡ char_cell c.in-Some.c = c.char.ensures in
+    λ cells.
+    let F : Option Cell → Type 0 = λ o. Finds IntChar cells c.args.inputs.now o in
+    subst F (ap (option_map char_cell) (sym value) ∙ ap Some (sym cell)) (char-finds c.args.inputs.now t cells)
+
+pub returns-in-None : goal.returns-in-None
+returns-in-None c =
+    let t : OneInt c.args.inputs.now = c.requires in
+    let d : Cell = record { kind = 0; number = pos 0 } in
+    let first : to_z w64 (of_z w64 (get_or c.args.inputs.now 0 d).number) ≡ t.n = to_z-of_z w64 (get_or c.args.inputs.now 0 d).number (search rules) ∙ int-read c.args.inputs.now t d in
+    let none_is : Option ℕ = None in
+    let value : none_is ≡ char_numbered t.n = rw first at c.in-None.ensures in
+    λ cells.
+    let F : Option Cell → Type 0 = λ o. Finds IntChar cells c.args.inputs.now o in
+    subst F (ap (option_map char_cell) (sym value)) (char-finds c.args.inputs.now t cells)

@@ -1,0 +1,6 @@
+pub mod Binds
+pub mod Taken
+pub mod Found
+pub mod Exact
+pub mod Calculated
+pub mod Shapes

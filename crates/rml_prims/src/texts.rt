@@ -1,0 +1,46 @@
+//! Texts in cells: a head with the count of bytes, and the bytes, packed eight in a cell.
+
+ghost use Rattle.std.specs.Prelude.{ℕ, ◌≡◌, ◌<◌, ◌*◌, ◌/◌, List, drop, slice_index};
+ghost use Rattle.rml_heap.specs.Text.{word_of_bytes};
+ghost use Rattle.rml_heap.specs.declared.cell.Cell.{Cell};
+ghost use Rattle.rml_prims.specs.Shapes.{IsText};
+
+use rml_heap::{Cell, Heap, address_of, count_of};
+
+/// A text in cells: the address of its head, and how many bytes it has.
+#[derive(Clone, Copy)]
+pub struct TextBlock {
+    pub at: u32,
+    pub size: u32,
+}
+
+/// The text that a cell stands for.
+pub fn text_of(heap: &Heap, cell: Cell) -> TextBlock
+    requires { (at size : ℕ) × (bytes : List ℕ) × IsText heap.now.values cell at size bytes }
+    ensures { (bytes : List ℕ) × IsText heap.now.values cell result.at result.size bytes }
+{
+    let _used = heap.used();
+    let at = address_of(cell);
+    let size = count_of(heap.get(at)) as u32;
+    TextBlock { at, size }
+}
+
+/// The word of a text in which a byte is.
+fn word_at(heap: &Heap, text: TextBlock, i: u32) -> i64
+    requires text { (c : Cell) × (bytes : List ℕ) × IsText heap.now.values c text.at text.size bytes }
+    requires inside { i < text.size }
+    ensures { (c : Cell) (bytes : List ℕ) → IsText heap.now.values c text.at text.size bytes → result ≡ word_of_bytes (drop (8 * (i / 8)) bytes) }
+{
+    let _used = heap.used();
+    heap.get(text.at + 1 + i / 8).number
+}
+
+/// A byte of a text.
+pub fn byte_at(heap: &Heap, text: TextBlock, i: u32) -> u8
+    requires text { (c : Cell) × (bytes : List ℕ) × IsText heap.now.values c text.at text.size bytes }
+    requires inside { i < text.size }
+    ensures { (c : Cell) (bytes : List ℕ) → IsText heap.now.values c text.at text.size bytes → result ≡ slice_index bytes i }
+{
+    let word = word_at(heap, text, i).to_le_bytes();
+    word[(i % 8) as usize]
+}
