@@ -1,0 +1,9 @@
+pub mod Fewer
+pub mod Places
+pub mod Using
+pub mod Owned
+pub mod Faultless
+pub mod Wholes
+pub mod BuiltInTypes
+pub mod BuiltInRules
+pub mod Callers
