@@ -5,6 +5,3 @@ pub mod laws;
 mod pass;
 
 pub use pass::{Clauses, clauses_of_relation};
-
-#[cfg(test)]
-mod tests;
