@@ -7,4 +7,5 @@ pub mod Comparisons
 pub mod Told
 pub mod Tasks
 pub mod Packing
+pub mod Blocks
 pub mod Callers

@@ -5,8 +5,7 @@ use Rattle.rml_base.specs.declared.place.Place.{Place}
 use Rattle.rml_types.specs.Finite.{nodes}
 use Rattle.rml_types.specs.Instances.{IsInstance}
 use Rattle.rml_types.specs.Schemes.{inst}
-use Rattle.rml_types.proofs.Callers.{body-instance}
-use Rattle.rml_types.proofs.General.{widens}
+use Rattle.rml_types.proofs.Callers.{body-instance, widens}
 use Rattle.rml_resolved.specs.declared.parts.Parts.{Parts}
 use Rattle.rml_typed.specs.declared.answers.TypeErr.{TypeErr}
 use Rattle.rml_typed.specs.Parts.{pieces}

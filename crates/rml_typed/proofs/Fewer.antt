@@ -12,7 +12,7 @@ use Rattle.rml_typed.specs.Typed.{Declared, Uses}
 use Rattle.rml_typed.specs.Parts.{RelType, pieces, PieceOf, FirstTyped}
 use Rattle.rml_typed.specs.Units.{GroupTypes, GroupFirstTyped, GroupCanBeTyped, up_to, alone, declared, declared_type, DeclaredFirstTyped, Used, inside}
 use Rattle.rml_typed.specs.Untyped.{IsNotPast}
-use Rattle.rml_typed.proofs.Places.{before-follows}
+use Rattle.rml_base.proofs.Callers.{before-follows}
 
 -- of a list each of the first m items is among the first n
 abbrev pub Within : ℕ → ℕ → ℕ → Type 0

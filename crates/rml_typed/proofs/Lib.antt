@@ -1,5 +1,4 @@
 pub mod Fewer
-pub mod Places
 pub mod Using
 pub mod Owned
 pub mod Faultless

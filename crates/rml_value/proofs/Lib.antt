@@ -1,2 +1,3 @@
 pub mod AllSame
 pub mod ListItems
+pub mod Callers
