@@ -4,7 +4,7 @@ use Rattle.std.specs.Prelude.{◌==◌, true, false, Bool, IsTrue, IfOk, OnOk, O
 use Rattle.std.specs.List.{AllByRecursion}
 use Rattle.std.proofs.Math.Seq.{take-append_seam}
 use Rattle.std.proofs.lemmas.Bool.Decides.{nat_tests}
-use Rattle.std.proofs.lemmas.List.{get_or-map, get_or_append_left, get_or_at, length-map, length-take-le, map-append, take_all, length-drop, drop_more, get_or_default}
+use Rattle.std.proofs.lemmas.List.{append-nil, map-id, get_or-map, get_or_append_left, get_or_at, length-map, length-take-le, map-append, take_all, length-drop, drop_more, get_or_default}
 use Rattle.std.proofs.lemmas.List.Elements.{All-append, All-cons, All-nil, All-same, All-take}
 use Rattle.rml_types.specs.declared.form.Form.{Form}
 use Rattle.rml_types.specs.declared.form.TypeCon.{TypeCon}
@@ -16,27 +16,32 @@ use Rattle.rml_types.specs.declared.tree.SchemeTree.TheVariants as tree
 use Rattle.rml_types.specs.Finite.{Adds, HasTypes, built, with_type}
 use Rattle.rml_types.specs.Labels.{Label, all_labels, labels}
 use Rattle.rml_types.specs.Nodes.{Fits, HasNoFixed, Nodes, form_of, with_node}
-use Rattle.rml_types.specs.Runs.{Fresh, Grows, HasInstances, InScope, Placed, Placing, Ready, make, run}
+use Rattle.rml_types.specs.Runs.{Fresh, Grows, HasInstances, InScope, Keeps, Making, Placed, Placing, Ready, make, run, run_by}
 use Rattle.rml_types.specs.Schemes.{every, inst, unit, vars_below}
 use Rattle.rml_types.proofs.FiniteTypes.{drop-seam, induct-built, map-parts, nil-of}
 use Rattle.rml_types.proofs.Grown.{Equal, Less, More, none-some, order, past-one}
 use Rattle.rml_types.proofs.LabelLists.{labels-built}
 use Rattle.rml_types.proofs.Substitutions.{below-Named, below-Rel, below-Tuple, below-Var, both, inst-Named, inst-Rel, inst-Tuple, inst-Var, named}
 
-pub grows-refl : (g : Nodes) → Grows g g
-grows-refl g = record { failed = refl; count = omega arith; unfixed = λ h. h; restricts = λ types h. h; extends = λ types h. (types, h, λ n lt. refl) }
+pub keeps-refl : (g : Nodes) → Keeps g g
+keeps-refl g = record { failed = refl; count = omega arith; restricts = λ types h. h; extends = λ types h. (types, h, λ n lt. refl) }
 
-pub grows-trans : (a b c : Nodes) → Grows a b → Grows b c → Grows a c
-grows-trans a b c f g = record {
+pub keeps-trans : (a b c : Nodes) → Keeps a b → Keeps b c → Keeps a c
+keeps-trans a b c f g = record {
   failed = g.failed ∙ f.failed;
   count = (let p = f.count in let q = g.count in omega arith);
-  unfixed = λ h. g.unfixed (f.unfixed h);
   restricts = λ types h. f.restricts types (g.restricts types h);
   extends = λ types h. (
       let p = f.extends types h in
       let q = g.extends p.0 p.1 in
       (q.0, q.1, λ n lt. q.2 n (let k = f.count in omega arith) ∙ p.2 n lt));
 }
+
+pub grows-refl : (g : Nodes) → Grows g g
+grows-refl g = record { kept = keeps-refl g; unfixed = λ h. h }
+
+pub grows-trans : (a b c : Nodes) → Grows a b → Grows b c → Grows a c
+grows-trans a b c f g = record { kept = keeps-trans a b c f.kept g.kept; unfixed = λ h. g.unfixed (f.unfixed h) }
 
 other-than : (types : ℕ → SchemeTree) (n : ℕ) (t : SchemeTree) (m : ℕ) → (m ≡ n → ⊥) → with_type types n t m ≡ types m
 other-than types n t m ne = let e : (m == n) ≡ false = grind (arith, nat_tests, ne) in rw e refl
@@ -60,11 +65,10 @@ unfixed-more g form other h n f k e q = elim (order n (length g.forms)) [
   | More gt ↦ none-some (past-one g.forms form n None gt) e
 ]
 
-pub grows-by : (old new : Nodes) (form : Option Form) → ((f : Form) (k : ℕ) → form ≡ Some f → f.con ≡ con.Fixed k → ⊥) → new ≡ with_node old form → Adds old new form → Grows old new
-grows-by old new form other e a = record {
+pub keeps-by : (old new : Nodes) (form : Option Form) → new ≡ with_node old form → Adds old new form → Keeps old new
+keeps-by old new form e a = record {
   failed = ap (λ (g : Nodes). g.failed) e;
   count = (let k = ap (λ (g : Nodes). length g.forms) e in let l = length-append old.forms (form ∷ []) in omega arith);
-  unfixed = λ h. subst HasNoFixed (sym e) (unfixed-more old form other h);
   restricts = a.restricts;
   extends = λ types h. (
     with_type types (length old.forms) (type-for types form),
@@ -73,17 +77,20 @@ grows-by old new form other e a = record {
   );
 }
 
+pub grows-by : (old new : Nodes) (form : Option Form) → ((f : Form) (k : ℕ) → form ≡ Some f → f.con ≡ con.Fixed k → ⊥) → new ≡ with_node old form → Adds old new form → Grows old new
+grows-by old new form other e a = record { kept = keeps-by old new form e a; unfixed = λ h. subst HasNoFixed (sym e) (unfixed-more old form other h) }
+
 pub fresh-none : (g : Nodes) → Fresh g g []
 fresh-none g = record { within = λ i lt. absurd (omega arith); each = λ types ts h. (types, h, λ n lt. refl, λ k lt. absurd (omega arith)) }
 
 -- fresh nodes stay so where the graph grows
 pub fresh-on : (old mid new : Nodes) (nodes : List ℕ) → Grows old mid → Grows mid new → Fresh old mid nodes → Fresh old new nodes
 fresh-on old mid new nodes before after f = record {
-  within = λ i lt. (let w = f.within i lt in let c = after.count in omega arith);
+  within = λ i lt. (let w = f.within i lt in let c = after.kept.count in omega arith);
   each = λ types ts h. (
       let p = f.each types ts h in
-      let q = after.extends p.0 p.1 in
-      (q.0, q.1, λ n lt. q.2 n (let c = before.count in omega arith) ∙ p.2 n lt, λ k lt. q.2 (get_or nodes k 0) (f.within k lt) ∙ p.3 k lt));
+      let q = after.kept.extends p.0 p.1 in
+      (q.0, q.1, λ n lt. q.2 n (let c = before.kept.count in omega arith) ∙ p.2 n lt, λ k lt. q.2 (get_or nodes k 0) (f.within k lt) ∙ p.3 k lt));
 }
 
 pub fresh-more : (old mid new : Nodes) (nodes : List ℕ) (node : ℕ) → Grows old mid → Fresh old mid nodes → new ≡ with_node mid None → Adds mid new None → node ≡ length mid.forms → Fresh old new (nodes ++ node ∷ [])
@@ -100,7 +107,7 @@ fresh-more old mid new nodes node before f e a is = record {
       let t = get_or ts (length nodes) unit in (
         with_type p.0 (length mid.forms) t,
         a.extends p.0 t p.1 (λ g q. none-is g q),
-        λ n lt. other-than p.0 (length mid.forms) t n (λ q. (let c = before.count in omega arith)) ∙ p.2 n lt,
+        λ n lt. other-than p.0 (length mid.forms) t n (λ q. (let c = before.kept.count in omega arith)) ∙ p.2 n lt,
         λ k lt. (let m = length-append nodes (node ∷ []) in elim (order k (length nodes)) [
           | Less h ↦ (let w = f.within k h in ap (with_type p.0 (length mid.forms) t) (get_or_append_left nodes (node ∷ []) 0 k h) ∙ other-than p.0 (length mid.forms) t (get_or nodes k 0) (λ q. omega arith) ∙ p.3 k h)
           | Equal h ↦ ap (with_type p.0 (length mid.forms) t) (get_or_at nodes node [] 0 k (sym h) ∙ is) ∙ at-that p.0 (length mid.forms) t ∙ ap (λ j. get_or ts j unit) (sym h)
@@ -130,30 +137,33 @@ make-inst vars (con.Rel k) us = ap (λ x. tree.Rel x (drop k (map (inst vars) us
 seam : {X : Type 0} (xs ys : List X) (n : ℕ) → n ≡ length ys → length (xs ++ ys) - n ≡ length xs
 seam xs ys n e = let l = length-append xs ys in omega arith
 
-pub run-label : (vars : List SchemeTree) (c : TypeCon) (n : ℕ) (ls : List Label) (ts us : List SchemeTree) → n ≡ length us → run vars ((c, n) ∷ ls) (ts ++ us) ≡ run vars ls (ts ++ make vars c us ∷ [])
-run-label vars c n ls ts us e =
-    ap (λ k. run vars ls (take k (ts ++ us) ++ make vars c (drop k (ts ++ us)) ∷ [])) (seam ts us n e)
-    ∙ ap (λ xs. run vars ls (xs ++ make vars c (drop (length ts) (ts ++ us)) ∷ [])) (take-append_seam ts us)
-    ∙ ap (λ xs. run vars ls (ts ++ make vars c xs ∷ [])) (drop-seam ts us)
+-- the last that was made gives way to what a label makes of it
+pub run-label : {A : Type 0} (by : TypeCon → List A → A) (c : TypeCon) (n : ℕ) (ls : List Label) (ts us : List A) → n ≡ length us → run_by by ((c, n) ∷ ls) (ts ++ us) ≡ run_by by ls (ts ++ by c us ∷ [])
+run-label by c n ls ts us e =
+    ap (λ k. run_by by ls (take k (ts ++ us) ++ by c (drop k (ts ++ us)) ∷ [])) (seam ts us n e)
+    ∙ ap (λ xs. run_by by ls (xs ++ by c (drop (length ts) (ts ++ us)) ∷ [])) (take-append_seam ts us)
+    ∙ ap (λ xs. run_by by ls (ts ++ by c xs ∷ [])) (drop-seam ts us)
 
-abbrev RunsTo : List SchemeTree → SchemeTree → Type 0
-RunsTo vars t = (ls : List Label) (ts : List SchemeTree) → run vars (labels t ++ ls) ts ≡ run vars ls (ts ++ inst vars t ∷ [])
+-- What goes by constructors is made from labels.
+module _ {A : Type 0} (by : TypeCon → List A → A) (f : SchemeTree → A) (goes : (c : TypeCon) (us : List SchemeTree) → Fits c (length us) → by c (map f us) ≡ f (built c us)) where
+  abbrev RunsTo : SchemeTree → Type 0
+  RunsTo t = (ls : List Label) (made : List A) → run_by by (labels t ++ ls) made ≡ run_by by ls (made ++ f t ∷ [])
 
-run-all : (vars : List SchemeTree) (us : List SchemeTree) → AllByRecursion (RunsTo vars) us → (ls : List Label) (ts : List SchemeTree) → run vars (all_labels us ++ ls) ts ≡ run vars ls (ts ++ map (inst vars) us)
-run-all vars [] a ls ts = ap (run vars ls) (sym (none ts)) where
-  none : (ts : List SchemeTree) → ts ++ [] ≡ ts
-  none [] = refl
-  none (t ∷ ts) = ap (λ x. t ∷ x) (none ts)
-run-all vars (u ∷ us) a ls ts =
-    ap (λ xs. run vars xs ts) (append_assoc (labels u) (all_labels us) ls) ∙ a.0 (all_labels us ++ ls) ts ∙ run-all vars us a.1 ls (ts ++ inst vars u ∷ [])
-    ∙ ap (run vars ls) (append_assoc ts (inst vars u ∷ []) (map (inst vars) us))
+  run-all : (us : List SchemeTree) → AllByRecursion RunsTo us → (ls : List Label) (made : List A) → run_by by (all_labels us ++ ls) made ≡ run_by by ls (made ++ map f us)
+  run-all [] a ls made = ap (run_by by ls) (sym (append-nil made))
+  run-all (u ∷ us) a ls made =
+      ap (λ xs. run_by by xs made) (append_assoc (labels u) (all_labels us) ls) ∙ a.0 (all_labels us ++ ls) made ∙ run-all us a.1 ls (made ++ f u ∷ [])
+      ∙ ap (run_by by ls) (append_assoc made (f u ∷ []) (map f us))
 
-pub runs-to : (vars : List SchemeTree) (t : SchemeTree) → RunsTo vars t
-runs-to vars = induct-built (RunsTo vars) (λ c us fits a ls ts.
-    ap (λ xs. run vars (xs ++ ls) ts) (labels-built c us fits) ∙ ap (λ xs. run vars xs ts) (append_assoc (all_labels us) ((c, length us) ∷ []) ls)
-    ∙ run-all vars us a ((c, length us) ∷ ls) ts
-    ∙ run-label vars c (length us) ls ts (map (inst vars) us) (sym (length-map us (inst vars)))
-    ∙ ap (λ t. run vars ls (ts ++ t ∷ [])) (make-inst vars c us))
+  runs-to : (t : SchemeTree) → RunsTo t
+  runs-to = induct-built RunsTo (λ c us fits a ls made.
+      ap (λ xs. run_by by (xs ++ ls) made) (labels-built c us fits) ∙ ap (λ xs. run_by by xs made) (append_assoc (all_labels us) ((c, length us) ∷ []) ls)
+      ∙ run-all us a ((c, length us) ∷ ls) made
+      ∙ run-label by c (length us) ls made (map f us) (sym (length-map us f))
+      ∙ ap (λ x. run_by by ls (made ++ x ∷ [])) (goes c us fits))
+
+  pub begun-by : (t : SchemeTree) → run_by by (labels t) [] ≡ f t ∷ []
+  begun-by t = ap (λ xs. run_by by xs []) (sym (append-nil (labels t))) ∙ runs-to t [] []
 
 pub every-append : (xs ys : List Bool) → IsTrue (every xs) → IsTrue (every ys) → IsTrue (every (xs ++ ys))
 every-append [] ys a b = b
@@ -187,16 +197,13 @@ ready-to vars = induct-built (LeavesOne vars) (λ c us fits a below ls k r.
     (ready-all vars us a p.1 ((c, length us) ∷ ls) k (omega arith, fits, p.0, subst (Ready vars ls) (sym e) r)))
 
 pub begun-ready : (vars : ℕ) (t : SchemeTree) → IsTrue (vars_below vars t) → Ready vars (labels t) 0
-begun-ready vars t below = subst (λ xs. Ready vars xs 0) (none (labels t)) (ready-to vars t below [] 0 (omega arith)) where
-  none : (ls : List Label) → ls ++ [] ≡ ls
-  none [] = refl
-  none (l ∷ ls) = ap (λ x. l ∷ x) (none ls)
+begun-ready vars t below = subst (λ xs. Ready vars xs 0) (append-nil (labels t)) (ready-to vars t below [] 0 (omega arith))
 
 pub begun-runs : (vars : List SchemeTree) (t : SchemeTree) → run vars (labels t) [] ≡ inst vars t ∷ []
-begun-runs vars t = ap (λ xs. run vars xs []) (sym (none (labels t))) ∙ runs-to vars t [] [] where
-  none : (ls : List Label) → ls ++ [] ≡ ls
-  none [] = refl
-  none (l ∷ ls) = ap (λ x. l ∷ x) (none ls)
+begun-runs vars = begun-by (make vars) (inst vars) (λ c us fits. make-inst vars c us)
+
+pub begun-stands : (t : SchemeTree) → run_by built (labels t) [] ≡ t ∷ []
+begun-stands = begun-by built (λ t. t) (λ c us fits. ap (built c) (map-id us))
 
 pub make-other : (vars : List SchemeTree) (c : TypeCon) (ts : List SchemeTree) → ((k : ℕ) → c ≡ con.Fixed k → ⊥) → make vars c ts ≡ built c ts
 make-other vars (con.Fixed k) ts other = absurd (other k refl)
@@ -204,7 +211,23 @@ make-other vars (con.Named c) ts other = refl
 make-other vars con.Tuple ts other = refl
 make-other vars (con.Rel k) ts other = refl
 
--- what a new node of a form does
+-- what a new node of a form does where variables stand fixed
+pub record Stands (old new : Nodes) (c : TypeCon) (args : List ℕ) (r : Result ℕ Memory) : Type 0 where
+  pub keeps : Keeps old new
+  pub within : IfOk r (λ n. n < length new.forms)
+  pub types : IfOk r (λ n. (types : ℕ → SchemeTree) → HasTypes new types → types n ≡ built c (map types args))
+
+pub stands : (old new : Nodes) (c : TypeCon) (args : List ℕ) (r : Result ℕ Memory) → IfOk r (λ n. n ≡ length old.forms)
+    → OnOk r (new ≡ with_node old (Some (record { con = c; args = args }))) → OnOk r (Adds old new (Some (record { con = c; args = args }))) → OnErr r (new ≡ old) → Stands old new c args r
+stands old new c args (Err e) node ok types err = record { keeps = subst (Keeps old) (sym err) (keeps-refl old); within = tt; types = tt }
+stands old new c args (Ok n) node ok types err =
+    let f : Form = record { con = c; args = args } in
+    let k = ap (λ (g : Nodes). length g.forms) ok in
+    let l = length-append old.forms (Some f ∷ []) in
+    let at : form_of new n ≡ Some f = ap (λ (g : Nodes). form_of g n) ok ∙ get_or_at old.forms (Some f) [] None n (sym node) in
+    record { keeps = keeps-by old new (Some f) ok types; within = omega arith; types = λ sigma h. h.forms n f at }
+
+-- and where a variable is a node of its own
 pub record Labelled (old new : Nodes) (c : TypeCon) (args vars : List ℕ) (r : Result ℕ Memory) : Type 0 where
   pub grows : Grows old new
   pub within : IfOk r (λ n. n < length new.forms)
@@ -220,14 +243,11 @@ pub labelled : (old new : Nodes) (c : TypeCon) (args vars : List ℕ) (r : Resul
     → OnOk r (new ≡ with_node old (Some (record { con = c; args = args }))) → OnOk r (Adds old new (Some (record { con = c; args = args }))) → OnErr r (new ≡ old) → Labelled old new c args vars r
 labelled old new c args vars (Err e) other node ok types err = record { grows = subst (Grows old) (sym err) (grows-refl old); within = tt; types = tt }
 labelled old new c args vars (Ok n) other node ok types err =
-    let f : Form = record { con = c; args = args } in
-    let k = ap (λ (g : Nodes). length g.forms) ok in
-    let l = length-append old.forms (Some f ∷ []) in
-    let at : form_of new n ≡ Some f = ap (λ (g : Nodes). form_of g n) ok ∙ get_or_at old.forms (Some f) [] None n (sym node) in
+    let s = stands old new c args (Ok n) node ok types err in
     record {
-      grows = grows-by old new (Some f) (λ g k q r. other k (ap (λ (x : Form). x.con) (some-of q) ∙ r)) ok types;
-      within = omega arith;
-      types = λ sigma h. h.forms n f at ∙ sym (make-other (map sigma vars) c (map sigma args) other);
+      grows = grows-by old new (Some (record { con = c; args = args })) (λ g k q r. other k (ap (λ (x : Form). x.con) (some-of q) ∙ r)) ok types;
+      within = s.within;
+      types = λ sigma h. s.types sigma h ∙ sym (make-other (map sigma vars) c (map sigma args) other);
     }
 
 map-take : {X : Type 0} (f : ℕ → X) (k : ℕ) (xs : List ℕ) → map f (take k xs) ≡ take k (map f xs)
@@ -241,41 +261,40 @@ map-drop f (suc k) [] = refl
 map-drop f (suc k) (x ∷ xs) = map-drop f k xs
 
 -- a greater graph has all nodes of the lesser
-below-grown : (old new : Nodes) (xs : List ℕ) → Grows old new → All (λ n. n < length old.forms) xs → All (λ n. n < length new.forms) xs
-below-grown old new xs g a k d lt = let w = a k d lt in let c = g.count in omega arith
+pub below-kept : (old new : Nodes) (xs : List ℕ) → Keeps old new → All (λ n. n < length old.forms) xs → All (λ n. n < length new.forms) xs
+below-kept old new xs g a k d lt = let w = a k d lt in let c = g.count in omega arith
 
-pub placed : (old new : Nodes) (vars : List ℕ) (l : Label) (made later : List ℕ) (node : ℕ) → Grows old new → l.1 ≤ length made → All (λ n. n < length old.forms) made → node < length new.forms
-    → ((types : ℕ → SchemeTree) → HasTypes new types → types node ≡ make (map types vars) l.0 (map types (drop (length made - l.1) made)))
-    → later ≡ take (length made - l.1) made ++ node ∷ [] → Placed new vars l made later
-placed old new vars l made later node g le within inside types e = record {
+pub placed : (by : Making) (old new : Nodes) (l : Label) (made later : List ℕ) (node : ℕ) → Keeps old new → l.1 ≤ length made → All (λ n. n < length old.forms) made → node < length new.forms
+    → ((types : ℕ → SchemeTree) → HasTypes new types → types node ≡ by types l.0 (map types (drop (length made - l.1) made)))
+    → later ≡ take (length made - l.1) made ++ node ∷ [] → Placed by new l made later
+placed by old new l made later node g le within inside types e = record {
   within = All-same (λ n. n < length new.forms) later (take (length made - l.1) made ++ node ∷ []) e
-      (All-append (λ n. n < length new.forms) (take (length made - l.1) made) (node ∷ []) (All-take (λ n. n < length new.forms) (length made - l.1) made (below-grown old new made g within))
+      (All-append (λ n. n < length new.forms) (take (length made - l.1) made) (node ∷ []) (All-take (λ n. n < length new.forms) (length made - l.1) made (below-kept old new made g within))
       (All-cons (λ n. n < length new.forms) node [] inside (All-nil (λ n. n < length new.forms))));
   count = (let a = ap length e in let b = length-append (take (length made - l.1) made) (node ∷ []) in let c = length-take-le (length made - l.1) made (omega arith) in omega (arith, a, b, c));
   types = λ sigma h. ap (map sigma) e ∙ map-append sigma (take (length made - l.1) made) (node ∷ [])
       ∙ ap (λ xs. xs ++ sigma node ∷ []) (map-take sigma (length made - l.1) made)
-      ∙ ap (λ t. take (length made - l.1) (map sigma made) ++ t ∷ []) (types sigma h ∙ ap (make (map sigma vars) l.0) (map-drop sigma (length made - l.1) made));
+      ∙ ap (λ t. take (length made - l.1) (map sigma made) ++ t ∷ []) (types sigma h ∙ ap (by sigma l.0) (map-drop sigma (length made - l.1) made));
 }
 
-pub placing-next : (old new : Nodes) (vars : List ℕ) (all ls : List Label) (l : Label) (made later : List ℕ) → Grows old new → Placing old vars all (l ∷ ls) made → Placed new vars l made later → Placing new vars all ls later
-placing-next old new vars all ls l made later g p q = record {
-  ready = subst (Ready (length vars) ls) (sym q.count) p.ready.3;
-  vars_within = below-grown old new vars g p.vars_within;
+pub placing-next : (by : Making) (vars : ℕ) (old new : Nodes) (all ls : List Label) (l : Label) (made later : List ℕ) → Keeps old new → Placing by vars old all (l ∷ ls) made → Placed by new l made later → Placing by vars new all ls later
+placing-next by vars old new all ls l made later g p q = record {
+  ready = subst (Ready vars ls) (sym q.count) p.ready.3;
   within = q.within;
-  types = λ sigma h. ap (run (map sigma vars) ls) (q.types sigma h ∙ ap (λ k. take (k - l.1) (map sigma made) ++ make (map sigma vars) l.0 (drop (k - l.1) (map sigma made)) ∷ []) (sym (length-map made sigma))) ∙ p.types sigma (g.restricts sigma h);
+  types = λ sigma h. ap (run_by (by sigma) ls) (q.types sigma h ∙ ap (λ k. take (k - l.1) (map sigma made) ++ by sigma l.0 (drop (k - l.1) (map sigma made)) ∷ []) (sym (length-map made sigma))) ∙ p.types sigma (g.restricts sigma h);
 }
 
-pub placing-begun : (g : Nodes) (vars : List ℕ) (all : List Label) → Ready (length vars) all 0 → All (λ n. n < length g.forms) vars → Placing g vars all all []
-placing-begun g vars all r w = record { ready = r; vars_within = w; within = All-nil (λ n. n < length g.forms); types = λ sigma h. refl }
+pub placing-begun : (by : Making) (vars : ℕ) (g : Nodes) (all : List Label) → Ready vars all 0 → Placing by vars g all all []
+placing-begun by vars g all r = record { ready = r; within = All-nil (λ n. n < length g.forms); types = λ sigma h. refl }
 
 one-left : {X : Type 0} (f : ℕ → X) (xs : List ℕ) → length xs ≡ 1 → map f xs ≡ f (get_or xs 0 0) ∷ []
 one-left f [] e = absurd (omega arith)
 one-left f (x ∷ []) e = refl
 one-left f (x ∷ y ∷ xs) e = absurd (omega arith)
 
-pub placing-ended : (g : Nodes) (vars : List ℕ) (all : List Label) (made : List ℕ) → Placing g vars all [] made
-    → (types : ℕ → SchemeTree) → HasTypes g types → run (map types vars) all [] ≡ types (get_or made 0 0) ∷ []
-placing-ended g vars all made p sigma h = sym (p.types sigma h) ∙ one-left sigma made p.ready
+pub placing-ended : (by : Making) (vars : ℕ) (g : Nodes) (all : List Label) (made : List ℕ) → Placing by vars g all [] made
+    → (types : ℕ → SchemeTree) → HasTypes g types → run_by (by types) all [] ≡ types (get_or made 0 0) ∷ []
+placing-ended by vars g all made p sigma h = sym (p.types sigma h) ∙ one-left sigma made p.ready
 
 -- a node of a scheme's type over fresh nodes has the scheme's instances
 pub has-instances : (old mid new : Nodes) (vars : List ℕ) (node : ℕ) (scheme : Scheme) → Grows old mid → Fresh old mid vars → length vars ≡ scheme.vars → Grows mid new → node < length new.forms
@@ -302,10 +321,10 @@ has-instances old mid new vars node scheme before fresh count after inside types
 pub to-the-end : (xs : List ℕ) (k : ℕ) → take (length xs - k) (drop k xs) ≡ drop k xs
 to-the-end xs k = take_all (length xs - k) (drop k xs) (let l = length-drop k xs in omega arith)
 
-pub placing-step : (old new : Nodes) (vars : List ℕ) (all : List Label) (i : ℕ) (l : Label) (made later : List ℕ) → i < length all → get_or all i l ≡ l → Grows old new
-    → Placing old vars all (drop i all) made → Placed new vars l made later → Placing new vars all (drop (i + 1) all) later
-placing-step old new vars all i l made later lt e g p q =
-    placing-next old new vars all (drop (i + 1) all) l made later g (subst (λ ls. Placing old vars all ls made) (drop_more all i l lt ∙ ap (λ x. x ∷ drop (i + 1) all) e) p) q
+pub placing-step : (by : Making) (vars : ℕ) (old new : Nodes) (all : List Label) (i : ℕ) (l : Label) (made later : List ℕ) → i < length all → get_or all i l ≡ l → Keeps old new
+    → Placing by vars old all (drop i all) made → Placed by new l made later → Placing by vars new all (drop (i + 1) all) later
+placing-step by vars old new all i l made later lt e g p q =
+    placing-next by vars old new all (drop (i + 1) all) l made later g (subst (λ ls. Placing by vars old all ls made) (drop_more all i l lt ∙ ap (λ x. x ∷ drop (i + 1) all) e) p) q
 
 pub at-any : (all : List Label) (i : ℕ) (d : Label) → i < length all → get_or all i (get_or all i d) ≡ get_or all i d
 at-any all i d lt = get_or_default all i (get_or all i d) d lt
@@ -315,3 +334,10 @@ pub instance-at : (old mid new : Nodes) (vars : List ℕ) (all : List Label) (sc
 instance-at old mid new vars all scheme (Err e) before fresh count is after inside types = tt
 instance-at old mid new vars all scheme (Ok n) before fresh count is after inside types =
     has-instances old mid new vars n scheme before fresh count after inside (λ sigma h. ap (λ ls. run (map sigma vars) ls []) (sym is) ∙ types sigma h)
+
+pub fixed-at : (g : Nodes) (all : List Label) (t : SchemeTree) (r : Result ℕ Memory) → all ≡ labels t → IfOk r (λ n. (types : ℕ → SchemeTree) → HasTypes g types → run_by built all [] ≡ types n ∷ [])
+    → IfOk r (λ n. (types : ℕ → SchemeTree) → HasTypes g types → types n ≡ t)
+fixed-at g all t (Err e) is types = tt
+fixed-at g all t (Ok n) is types = λ sigma h. only (sym (types sigma h) ∙ ap (λ ls. run_by built ls []) is ∙ begun-stands t) where
+  only : {t u : SchemeTree} → t ∷ [] ≡ u ∷ [] → t ≡ u
+  only e = cc

@@ -107,7 +107,7 @@ module _ (root : ℕ → ℕ) (known : ℕ → Option Form) (count node : ℕ) (
         (omega (arith, f.2), f.0, f.1, subst (Ready count (class_labels known spelled)) e s.ready));
     types = λ leaf types u. (
         ap (run (leaves leaf count) (class_labels known (c ∷ spelled))) (ap (map types) (en ∙ ap (λ xs. old ++ xs) ea) ∙ map-append types old (args_in (known c)))
-        ∙ run-label (leaves leaf count) (label_by c (known c)).0 (label_by c (known c)).1 (class_labels known spelled) (map types old) (map types (args_in (known c)))
+        ∙ run-label (make (leaves leaf count)) (label_by c (known c)).0 (label_by c (known c)).1 (class_labels known spelled) (map types old) (map types (args_in (known c)))
         ((label-fits c (known c) refl lt).2 ∙ sym (length-map (args_in (known c)) types))
         ∙ ap (λ t. run (leaves leaf count) (class_labels known spelled) (map types old ++ t ∷ [])) (made leaf types n c (known c) u is lt refl)
         ∙ ap (run (leaves leaf count) (class_labels known spelled)) (sym (map-append types old (n ∷ [])))

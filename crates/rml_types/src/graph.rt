@@ -8,6 +8,7 @@ ghost use Rattle.rml_types.specs.Kept.{MayHave};
 ghost use Rattle.rml_types.specs.Nodes.{Fits, form_in, with_node};
 
 mod acyclic;
+mod fixed;
 mod general;
 mod instance;
 mod unify;

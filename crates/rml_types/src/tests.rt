@@ -72,6 +72,17 @@ fn instances_are_nodes_of_their_own(rt: HostRuntime) -> Result<(), Fail> {
     Ok(())
 }
 
+#[test]
+fn variables_that_stand_fixed_are_types_of_their_own(rt: HostRuntime) -> Result<(), Fail> {
+    let mut graph = Graph::new(rt.alloc());
+    let first = graph.fixed(&SchemeTree::Var(0))?;
+    let again = graph.fixed(&SchemeTree::Var(0))?;
+    let other = graph.fixed(&SchemeTree::Var(1))?;
+    assert_eq!(rt; graph.unify(first, again), Ok(()));
+    assert_eq!(rt; graph.unify(first, other), Err(UnifyErr::Clash));
+    Ok(())
+}
+
 /// The most general type of a node, if it has finite types.
 fn general_of(graph: &mut Graph, node: usize, limit: u32) -> Result<Option<Scheme>, Memory>
     requires within { node < length graph.old.forms }

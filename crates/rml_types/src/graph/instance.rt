@@ -2,7 +2,7 @@
 
 ghost use Rattle.std.specs.Prelude.{◌≡◌, ℕ, ◌<◌, ◌≤◌, ◌++◌, ◌∷◌, [], length, map, get_or, All, IfOk, OnOk, vec_len};
 ghost use Rattle.rml_types.specs.Labels.{labels};
-ghost use Rattle.rml_types.specs.Runs.{Fresh, Grows, HasInstances, InScope, Placed, Ready, make, run};
+ghost use Rattle.rml_types.specs.Runs.{Fresh, Grows, HasInstances, InScope, Placed, Ready, make, over, run};
 ghost use Rattle.rml_types.specs.Finite.{HasTypes};
 ghost use Rattle.rml_types.specs.Nodes.{Fits};
 ghost use Rattle.rml_types.specs.declared.tree.SchemeTree.{SchemeTree};
@@ -52,7 +52,7 @@ impl Graph {
         requires vars_within { All (λ n. n < length self.old.forms) vars.now }
         requires within { All (λ n. n < length self.old.forms) made.old.items }
         ensures grows { Grows self.old self.new }
-        ensures ok { OnOk result (Placed self.new vars.now label made.old.items made.new.items) }
+        ensures ok { OnOk result (Placed (over vars.now) self.new label made.old.items made.new.items) }
     {
         let (con, count) = label;
         let at = made.len() - count;
