@@ -4,3 +4,4 @@ pub mod Reading
 pub mod Keeping
 pub mod Rows
 pub mod Hashed
+pub mod Callers

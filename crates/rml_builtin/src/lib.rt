@@ -22,6 +22,7 @@ mod vectors;
 
 pub use applied::{Answer, Applied, Store};
 pub use built_ins::BuiltIns;
+pub use decimal::{digit_after, signed_integer};
 pub use made::cells_made;
 pub use row::{BuiltinRow, ROWS, Row, builtin, row_at};
 pub use run::{apply, apply_at};

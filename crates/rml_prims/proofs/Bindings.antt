@@ -12,9 +12,8 @@ use Rattle.rml_heap.specs.Form as form
 use Rattle.rml_heap.specs.Form.{Form, form_of}
 use Rattle.rml_heap.specs.Reading.{cell_at, form_before, look, Stands}
 use Rattle.rml_heap.specs.Agrees.{Agrees}
-use Rattle.rml_heap.proofs.Callers.{agrees-content, agrees-more, agrees-names, below-agrees, below-higher, look-below, look-content, look-is, unset-form}
+use Rattle.rml_heap.proofs.Callers.{agrees-content, agrees-more, agrees-names, at-end, before-append, before-next, below-agrees, below-higher, look-below, look-content, look-is, look-shown, stands-no_lvar, unset-form}
 use Rattle.rml_prims.specs.Binds.{Binds, HoldsEntry, IsLvar}
-use Rattle.rml_prims.proofs.Blocks.{at-end, before-append, before-next, look-shown, stands-no_lvar}
 
 -- ---- lists by places
 

@@ -9,7 +9,7 @@ use Rattle.rml_value.specs.declared.value.Value.TheVariants as value
 use Rattle.rml_value.specs.declared.value.TheConstants.{FALSE, TRUE}
 use Rattle.rml_value.specs.Range.{is_integer}
 use Rattle.rml_builtin.specs.declared.row.Row.{Row}
-use Rattle.rml_builtin.specs.declared.row.Row.TheVariants.{IntAdd, IntSub, IntMul, IntDiv, IntMod, IntNeg, IntAbs, IntMax, IntMin, IntLt, IntLe, IntGt, IntGe, IntEq, IntNe, IntChar, CharInt, StringLength, StringNth, VectorLength, VectorNth}
+use Rattle.rml_builtin.specs.declared.row.Row.TheVariants.{StringInt, IntAdd, IntSub, IntMul, IntDiv, IntMod, IntNeg, IntAbs, IntMax, IntMin, IntLt, IntLe, IntGt, IntGe, IntEq, IntNe, IntChar, CharInt, StringLength, StringNth, VectorLength, VectorNth}
 use Rattle.rml_builtin.specs.declared.applied.Applied.{Applied}
 use Rattle.rml_builtin.specs.declared.applied.Applied.TheVariants.{No, Wrong}
 use Rattle.rml_builtin.specs.Applied.{Store, gives_one, ranged, truth, or_no, or_wrong}
@@ -226,26 +226,27 @@ over-ints-taken row cells inputs (inr (inr is)) can = comparison-takes row is (c
     comparison-takes IntAbs is t = absurd is
     comparison-takes _ is t = t
 
-pub rest-ints : (row : Row) → IsFinding row → row ≢ IntChar → row ≢ CharInt → row ≢ StringLength → row ≢ StringNth → row ≢ VectorLength → row ≢ VectorNth → IsOverInts row
-rest-ints IntAdd is a b c d e f = inl tt
-rest-ints IntSub is a b c d e f = inl tt
-rest-ints IntMul is a b c d e f = inl tt
-rest-ints IntDiv is a b c d e f = inl tt
-rest-ints IntMod is a b c d e f = inl tt
-rest-ints IntMax is a b c d e f = inl tt
-rest-ints IntMin is a b c d e f = inl tt
-rest-ints IntNeg is a b c d e f = inr (inl tt)
-rest-ints IntAbs is a b c d e f = inr (inl tt)
-rest-ints IntLt is a b c d e f = inr (inr tt)
-rest-ints IntLe is a b c d e f = inr (inr tt)
-rest-ints IntGt is a b c d e f = inr (inr tt)
-rest-ints IntGe is a b c d e f = inr (inr tt)
-rest-ints IntEq is a b c d e f = inr (inr tt)
-rest-ints IntNe is a b c d e f = inr (inr tt)
-rest-ints IntChar is a b c d e f = absurd (a refl)
-rest-ints CharInt is a b c d e f = absurd (b refl)
-rest-ints StringLength is a b c d e f = absurd (c refl)
-rest-ints StringNth is a b c d e f = absurd (d refl)
-rest-ints VectorLength is a b c d e f = absurd (e refl)
-rest-ints VectorNth is a b c d e f = absurd (f refl)
-rest-ints _ is a b c d e f = absurd is
+pub rest-ints : (row : Row) → IsFinding row → row ≢ IntChar → row ≢ CharInt → row ≢ StringLength → row ≢ StringNth → row ≢ VectorLength → row ≢ VectorNth → row ≢ StringInt → IsOverInts row
+rest-ints IntAdd is a b c d e f g = inl tt
+rest-ints IntSub is a b c d e f g = inl tt
+rest-ints IntMul is a b c d e f g = inl tt
+rest-ints IntDiv is a b c d e f g = inl tt
+rest-ints IntMod is a b c d e f g = inl tt
+rest-ints IntMax is a b c d e f g = inl tt
+rest-ints IntMin is a b c d e f g = inl tt
+rest-ints IntNeg is a b c d e f g = inr (inl tt)
+rest-ints IntAbs is a b c d e f g = inr (inl tt)
+rest-ints IntLt is a b c d e f g = inr (inr tt)
+rest-ints IntLe is a b c d e f g = inr (inr tt)
+rest-ints IntGt is a b c d e f g = inr (inr tt)
+rest-ints IntGe is a b c d e f g = inr (inr tt)
+rest-ints IntEq is a b c d e f g = inr (inr tt)
+rest-ints IntNe is a b c d e f g = inr (inr tt)
+rest-ints IntChar is a b c d e f g = absurd (a refl)
+rest-ints CharInt is a b c d e f g = absurd (b refl)
+rest-ints StringLength is a b c d e f g = absurd (c refl)
+rest-ints StringNth is a b c d e f g = absurd (d refl)
+rest-ints VectorLength is a b c d e f g = absurd (e refl)
+rest-ints VectorNth is a b c d e f g = absurd (f refl)
+rest-ints StringInt is a b c d e f g = absurd (g refl)
+rest-ints _ is a b c d e f g = absurd is

@@ -1,7 +1,6 @@
 pub mod PlainCells
 pub mod Arguments
 pub mod Calculations
-pub mod Blocks
 pub mod Bindings
 pub mod VariableCells
 pub mod VectorCells
@@ -15,3 +14,6 @@ pub mod ListCells
 pub mod MadeVectors
 pub mod TextCells
 pub mod SpelledLists
+pub mod ReadNumerals
+pub mod PackedTexts
+pub mod PackedRows

@@ -13,10 +13,9 @@ use Rattle.rml_heap.specs.HeapState.{unset_cell}
 use Rattle.rml_heap.specs.Form as form
 use Rattle.rml_heap.specs.Form.{Form, address, form_of}
 use Rattle.rml_heap.specs.Reading.{cell_at, look, looks, parts_of, block_value, value_below, Stands, AllStand}
-use Rattle.rml_heap.proofs.Callers.{BlockStands, IsPlain, all-higher, block-address, block-kind, block-made, block-stands, below-higher, look-below, outline, outline_of, stands-inside}
+use Rattle.rml_heap.proofs.Callers.{BlockStands, IsPlain, all-higher, below-higher, block-address, block-form, block-kind, block-made, block-stands, look-below, outline, outline_of, stands-inside}
 use Rattle.rml_prims.specs.Shapes.{IsCons, IsList, con_cell}
 use Rattle.rml_prims.proofs.PlainCells.{HasHead, con-form, one-cell, plain-form, plain_value, stands-head, stands-plain}
-use Rattle.rml_prims.proofs.Blocks.{block-form}
 use Rattle.rml_prims.proofs.PlacedCells.{cons-form}
 
 -- ---- the two parts of a `::`

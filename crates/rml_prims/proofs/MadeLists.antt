@@ -6,9 +6,9 @@ use Rattle.rml_value.specs.declared.value.Value.{Value}
 use Rattle.rml_value.specs.declared.value.Value.TheVariants.{outs-Con}
 use Rattle.rml_value.specs.declared.value.TheConstants.{CONS, NIL}
 use Rattle.rml_value.specs.Lists.{list_of}
-use Rattle.rml_value.proofs.ListItems.{items_of-list_of}
+use Rattle.rml_value.proofs.Callers.{items_of-list_of}
 use Rattle.rml_builtin.specs.declared.row.Row.{Row}
-use Rattle.rml_builtin.specs.declared.row.Row.TheVariants.{IntString, StringList, LvarGet, ListVector, VectorList}
+use Rattle.rml_builtin.specs.declared.row.Row.TheVariants.{IntString, StringAppend, StringList, ListString, LvarGet, ListVector, VectorList}
 use Rattle.rml_builtin.specs.declared.applied.Applied.{Applied}
 use Rattle.rml_builtin.specs.Applied.{Store, gives_one}
 use Rattle.rml_builtin.specs.Arguments.{vector_of}
@@ -19,13 +19,12 @@ use Rattle.rml_heap.specs.declared.heap.Full.{Full}
 use Rattle.rml_heap.specs.HeapState.{HeapState, HasRoom, unset_cell}
 use Rattle.rml_heap.specs.Form as form
 use Rattle.rml_heap.specs.Reading.{cell_at, form_before, look, looks, Stands, AllStand}
-use Rattle.rml_heap.proofs.Callers.{below-higher, look-below}
+use Rattle.rml_heap.proofs.Callers.{below-higher, look-below, stands-more}
 use Rattle.rml_prims.specs.Shapes.{IsVector, OneVector, block_cell, con_cell, cons_head}
 use Rattle.rml_prims.specs.Taken.{cells_taken}
 use Rattle.rml_prims.specs.Found.{CanApply, DoNotFit, IsMade, IsMaking, Makes}
 use Rattle.rml_prims.proofs.PlainCells.{con-stands}
 use Rattle.rml_prims.proofs.Arguments.{one-given, one-told, one-values}
-use Rattle.rml_prims.proofs.Blocks.{stands-more}
 use Rattle.rml_prims.proofs.VectorCells.{HasItems, any-items, items-of, one-vector, part-at}
 use Rattle.rml_prims.proofs.PlacedCells.{cons-last, cons-stands}
 
@@ -191,10 +190,12 @@ list-full old now c full at size not_fit same vector names store values binds st
 pub list-vector : (cells inputs : List Cell) → CanApply VectorList cells inputs → OneVector cells inputs
 list-vector cells inputs can = one-vector cells inputs can.names can.values can.stand (one-told vector_of can.values (λ ws. gives_one (list_of ws) can.store) can.right)
 
-pub last-making : (row : Row) → IsMaking row → row ≢ IntString → row ≢ StringList → row ≢ LvarGet → row ≢ ListVector → row ≡ VectorList
-last-making IntString is a b c d = absurd (a refl)
-last-making StringList is a b c d = absurd (b refl)
-last-making LvarGet is a b c d = absurd (c refl)
-last-making ListVector is a b c d = absurd (d refl)
-last-making VectorList is a b c d = refl
-last-making _ is a b c d = absurd is
+pub last-making : (row : Row) → IsMaking row → row ≢ IntString → row ≢ StringAppend → row ≢ StringList → row ≢ ListString → row ≢ LvarGet → row ≢ ListVector → row ≡ VectorList
+last-making IntString is a b c d e f = absurd (a refl)
+last-making StringAppend is a b c d e f = absurd (b refl)
+last-making StringList is a b c d e f = absurd (c refl)
+last-making ListString is a b c d e f = absurd (d refl)
+last-making LvarGet is a b c d e f = absurd (e refl)
+last-making ListVector is a b c d e f = absurd (f refl)
+last-making VectorList is a b c d e f = refl
+last-making _ is a b c d e f = absurd is

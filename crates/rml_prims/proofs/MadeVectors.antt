@@ -6,7 +6,7 @@ use Rattle.rml_value.specs.declared.value.Value.{Value}
 use Rattle.rml_value.specs.declared.value.Value.TheVariants as value
 use Rattle.rml_value.specs.declared.value.Value.TheVariants.{outs-Vector}
 use Rattle.rml_value.specs.Lists.{items_of}
-use Rattle.rml_value.proofs.ListItems.{items_of-list_of, list_of-items}
+use Rattle.rml_value.proofs.Callers.{items_of-list_of, list_of-items}
 use Rattle.rml_builtin.specs.declared.row.Row.TheVariants.{ListVector}
 use Rattle.rml_builtin.specs.declared.applied.Applied.{Applied}
 use Rattle.rml_builtin.specs.Applied.{Store, gives_one}
@@ -22,7 +22,7 @@ use Rattle.rml_prims.specs.Shapes.{AtCons, IsList, OneList, block_cell, vector_h
 use Rattle.rml_prims.specs.Taken.{cells_taken}
 use Rattle.rml_prims.specs.Found.{CanApply, DoNotFit, IsMade, Makes}
 use Rattle.rml_prims.proofs.Arguments.{One, one-given, one-told, one-cells, one-values}
-use Rattle.rml_prims.proofs.Blocks.{added-block, all-no_lvar, before-end}
+use Rattle.rml_heap.proofs.Callers.{added-block, all-no_lvar, before-end}
 use Rattle.rml_prims.proofs.VectorCells.{all-length, head-form}
 use Rattle.rml_prims.proofs.ListCells.{Further, ListRead, cons-more, is-list, list-read}
 

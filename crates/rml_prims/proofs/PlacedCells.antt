@@ -12,9 +12,8 @@ use Rattle.rml_heap.specs.Form as form
 use Rattle.rml_heap.specs.Form.{Form, form_of}
 use Rattle.rml_heap.specs.Text.{words_for, packed, text_of, text_cells, word_cell}
 use Rattle.rml_heap.specs.Reading.{form_before, each_of, word_in, word_of, parts_of, block_value, value_below, Stands}
-use Rattle.rml_heap.proofs.Callers.{EachByte, length-packed, text-read}
+use Rattle.rml_heap.proofs.Callers.{EachByte, added-block, added-stands, all-no_lvar, before-end, each-cons, length-packed, text-read}
 use Rattle.rml_prims.specs.Shapes.{block_cell, cons_head, text_head}
-use Rattle.rml_prims.proofs.Blocks.{added-block, added-stands, all-no_lvar, before-end, each-cons}
 
 -- ---- words
 

@@ -171,12 +171,16 @@ char-kind n v told = pick (nat_lt n 256) refl told
     pick false large (inl h) = absurd h
     pick false large (inr h) = absurd (cc)
 
-pub char-value : (cells : List Cell) (names : List ℕ) (top : ℕ) (n : ℕ) (v : Value) → Stands cells names top (cell_of (form.Char n)) v → char_of v ≡ Some n
-char-value cells names top n v h =
+pub char-low : (cells : List Cell) (names : List ℕ) (top : ℕ) (n : ℕ) (v : Value) → Stands cells names top (cell_of (form.Char n)) v → n < 256
+char-low cells names top n v h =
     let told : IsPlain (form_of (cell_of (form.Char n))) ⊎ ((at : ℕ) × (form_of (cell_of (form.Char n)) ≡ form.Block at)) =
     elim (standing cells names top (cell_of (form.Char n)) v h) [ inl plain ↦ inl plain | inr block ↦ inr (block.at, block.form_is) ]
     in
-    let low : n < 256 = char-kind n v told in
+    char-kind n v told
+
+pub char-value : (cells : List Cell) (names : List ℕ) (top : ℕ) (n : ℕ) (v : Value) → Stands cells names top (cell_of (form.Char n)) v → char_of v ≡ Some n
+char-value cells names top n v h =
+    let low : n < 256 = char-low cells names top n v h in
     let P : Form → Type 0 = IsPlain in
     let is : plain_value (form_of (cell_of (form.Char n))) ≡ Some v = stands-plain cells names top (cell_of (form.Char n)) v (subst P (sym (char-form n low)) tt) h in
     let same : Some (value.Char n) ≡ Some v = sym (ap plain_value (char-form n low)) ∙ is in

@@ -42,13 +42,13 @@ sum-can m n c =
     calculates IntAdd (value.Int m ∷ value.Int n ∷ []) [] tt ∙ two-given int_of int_of (λ p. int_or_no [] (calculated IntAdd p.0 p.1)) (value.Int m) (value.Int n) m n (int-is m) (int-is n)
     in
     record {
-      built = tt;
+      silent = refl;
       applies = record { names = []; store = []; values = value.Int m ∷ value.Int n ∷ []; binds = binds-nothing; stand = (int-stands [] [] 0 m, (int-stands [] [] 0 n, tt)); right = λ e. no-wrong [] (integer_of (m +ℤ n)) (sym same ∙ e) };
       results = refl;
     }
 
 pub made-can : (c : Cell) → CanRun LvarNew [] [] (c ∷ [])
-made-can c = record { built = tt; applies = record { names = []; store = []; values = []; binds = binds-nothing; stand = tt; right = λ e. cc }; results = refl }
+made-can c = record { silent = refl; applies = record { names = []; store = []; values = []; binds = binds-nothing; stand = tt; right = λ e. cc }; results = refl }
 
 pub set-can : (n : ℤ) → CanRun LvarSet (lvar_head ∷ unset_cell ∷ []) (block_cell 0 ∷ int_cell n ∷ []) []
 set-can n =
@@ -61,7 +61,7 @@ set-can n =
     two-given entry_of Some (λ p. set_lvar p.0 p.1 store) (value.Cell 0) (value.Int n) 0 (value.Int n) entry refl
     in
     record {
-      built = tt;
+      silent = refl;
       applies = record { names = names; store = store; values = value.Cell 0 ∷ value.Int n ∷ []; binds = binds; stand = (variable-stands cells names 0 0 (binds.lvars 0 0 refl) refl, (int-stands cells names 2 n, tt)); right = λ e. set-right n (sym same ∙ e) };
       results = refl;
     }

@@ -3,7 +3,7 @@ use Rattle.std.proofs.Common.{◌≡◌, ◌≢◌, ℕ, ◌≤◌, List, [], �
 use Rattle.std.proofs.lemmas.List.{append-nil}
 use Rattle.rml_value.specs.declared.value.Value.{Value}
 use Rattle.rml_builtin.specs.declared.row.Row.{Row}
-use Rattle.rml_builtin.specs.declared.row.Row.TheVariants.{IntString, StringInt, StringAppend, StringList, ListString, LvarNew, LvarGet, LvarSet, Print, ListVector, VectorList}
+use Rattle.rml_builtin.specs.declared.row.Row.TheVariants.{IntString, StringAppend, StringList, ListString, LvarNew, LvarGet, LvarSet, Print, ListVector, VectorList}
 use Rattle.rml_builtin.specs.declared.applied.Applied.{Applied}
 use Rattle.rml_builtin.specs.declared.applied.Applied.TheVariants.{Yes, No, Wrong}
 use Rattle.rml_builtin.specs.declared.applied.Answer.{Answer}
@@ -38,7 +38,6 @@ finding-other row is e = let P : Row → Type 0 = IsFinding in subst P e is
 
 finding-takes : (row : Row) → IsFinding row → (vs : List Value) → cells_taken row vs ≡ 0
 finding-takes IntString is vs = absurd is
-finding-takes StringInt is vs = absurd is
 finding-takes StringAppend is vs = absurd is
 finding-takes StringList is vs = absurd is
 finding-takes ListString is vs = absurd is

@@ -36,7 +36,7 @@ words-same before after (suc n) at same fits =
     let rest : suc at + n ≤ length before = omega (arith, fits) in
     ap (λ (c : Cell). c ∷ looks after (suc at) n) (same at here) ∙ ap (λ cs. look before at ∷ cs) (words-same before after n (suc at) same rest)
 
-text-more : (cells more : List Cell) (c : Cell) (at size : ℕ) (bytes : List ℕ) → IsText cells c at size bytes → IsText (cells ++ more) c at size bytes
+pub text-more : (cells more : List Cell) (c : Cell) (at size : ℕ) (bytes : List ℕ) → IsText cells c at size bytes → IsText (cells ++ more) c at size bytes
 text-more cells more c at size bytes h =
     let fits : suc (at + words_for size) ≤ length cells = h.fits in
     let long = length-append cells more in

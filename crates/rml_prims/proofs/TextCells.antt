@@ -10,25 +10,24 @@ use Rattle.rml_value.specs.declared.value.Value.{Value, out-Value}
 use Rattle.rml_value.specs.declared.value.Value.TheOpen.{Value-F}
 use Rattle.rml_value.specs.declared.value.Value.TheVariants as value
 use Rattle.rml_value.specs.declared.value.Value.TheVariants.{outs-Text}
-use Rattle.rml_builtin.specs.declared.row.Row.TheVariants.{StringLength, StringNth}
+use Rattle.rml_builtin.specs.declared.row.Row.TheVariants.{StringInt, StringLength, StringNth}
 use Rattle.rml_builtin.specs.declared.applied.Applied.{Applied}
 use Rattle.rml_builtin.specs.Applied.{Store, gives_one, or_no, ranged}
 use Rattle.rml_builtin.specs.Arguments.{int_of, text_at, text_of as bytes_in, one}
-use Rattle.rml_builtin.specs.Texts.{nth_char}
-use Rattle.rml_builtin.specs.Decimal.{integer_of}
+use Rattle.rml_builtin.specs.Texts.{int_from, nth_char}
+use Rattle.rml_builtin.specs.Decimal.{integer_of, read}
 use Rattle.rml_builtin.specs.BuiltIns.{apply}
 use Rattle.rml_heap.specs.declared.cell.Cell.{Cell}
 use Rattle.rml_heap.specs.Form as form
 use Rattle.rml_heap.specs.Form.{Form, address, form_of, or_zero}
 use Rattle.rml_heap.specs.Text.{words_for, word_of_bytes, bytes_of_word, packed, same_words, text_of, word_cell}
 use Rattle.rml_heap.specs.Reading.{cell_at, look, looks, each_of, word_in, word_of, parts_of, block_value, value_below, Stands, AllStand}
-use Rattle.rml_heap.proofs.Callers.{BlockStands, EachByte, IsHead, block-address, block-kind, block-stands, each-drop, head-is, length-each_of, length-looks, look-is, map-some, outline, outline_of, text-packed, text-read, then-some, unset-form, word-byte}
+use Rattle.rml_heap.proofs.Callers.{BlockStands, EachByte, IsHead, block-address, block-form, block-kind, block-stands, each-drop, head-is, length-each_of, length-looks, look-is, map-some, outline, outline_of, text-packed, text-read, then-some, unset-form, word-byte}
 use Rattle.rml_prims.specs.Shapes.{IsText, OneText, TextAndInt, char_cell, int_cell, index_in}
 use Rattle.rml_prims.specs.Found.{CanApply, Finds, IsFound}
 use Rattle.rml_prims.proofs.PlainCells.{HasHead, char-stands, int-cell, int-value, one-cell, stands-head}
 use Rattle.rml_prims.proofs.Arguments.{One, Two, one-told, two-told, one-given, two-given, one-cells, two-cells, one-values, two-values}
 use Rattle.rml_prims.proofs.Calculations.{int_or_no, found-int, ranged-is}
-use Rattle.rml_prims.proofs.Blocks.{block-form}
 use Rattle.rml_prims.proofs.PlacedCells.{text-form}
 
 -- ---- bytes
@@ -45,7 +44,7 @@ word-each i (suc (suc (suc (suc (suc (suc zero)))))) = omega arith
 word-each i (suc (suc (suc (suc (suc (suc (suc zero))))))) = omega arith
 word-each i (suc (suc (suc (suc (suc (suc (suc (suc k)))))))) = omega arith
 
-append-each : (xs ys : List ℕ) → EachByte xs → EachByte ys → EachByte (xs ++ ys)
+pub append-each : (xs ys : List ℕ) → EachByte xs → EachByte ys → EachByte (xs ++ ys)
 append-each xs ys left right i =
     elim (cases_lt i (length xs)) [
       | inl inside ↦ let e = get_or_append_left xs ys 0 i inside in let b = left i in omega (arith, e, b)
@@ -154,7 +153,7 @@ text-read-block cells names top at n v is h =
       fits = subst F is h.fits;
     }
 
-is-text : (cells : List Cell) (names : List ℕ) (c : Cell) (v : Value) (bytes : List ℕ) → bytes_in v ≡ Some bytes → Stands cells names (length cells) c v → (at size : ℕ) × (bs : List ℕ) × IsText cells c at size bs
+pub is-text : (cells : List Cell) (names : List ℕ) (c : Cell) (v : Value) (bytes : List ℕ) → bytes_in v ≡ Some bytes → Stands cells names (length cells) c v → (at size : ℕ) × (bs : List ℕ) × IsText cells c at size bs
 is-text cells names c v bytes is h =
     let n : ℕ = length bytes in
     let out : outline v ≡ form.Text n = text-out (out-Value v) bytes is in
@@ -183,6 +182,9 @@ one-text cells inputs names vs stand one =
 
 pub length-text-cell : (cells inputs : List Cell) → CanApply StringLength cells inputs → OneText cells inputs
 length-text-cell cells inputs can = one-text cells inputs can.names can.values can.stand (one-told bytes_in can.values (λ t. ranged (pos (length t)) can.store) can.right)
+
+pub int-text : (cells inputs : List Cell) → CanApply StringInt cells inputs → OneText cells inputs
+int-text cells inputs can = one-text cells inputs can.names can.values can.stand (one-told bytes_in can.values (λ t. int_from t can.store) can.right)
 
 pub nth-text : (cells inputs : List Cell) → CanApply StringNth cells inputs → TextAndInt cells inputs
 nth-text cells inputs can =
@@ -257,6 +259,16 @@ text_length-finds cells c at size bytes h names store values stand =
     in
     let F : Applied → Type 0 = λ a. IsFound cells names store a (option_map int_cell (integer_of (pos size))) in
     subst F (sym same) (found-int cells names store (integer_of (pos size)))
+
+pub int-finds : (cells : List Cell) (c : Cell) (at size : ℕ) (bytes : List ℕ) → IsText cells c at size bytes → Finds StringInt cells (c ∷ []) (option_map int_cell (read bytes))
+int-finds cells c at size bytes h names store values stand =
+    let told = one-values cells names (length cells) c values stand in
+    let is : told.0 ≡ value.Text bytes = any-text cells names c at size bytes told.0 h told.2 in
+    let same : apply StringInt values store ≡ int_or_no store (read bytes) =
+    ap (λ ws. apply StringInt ws store) told.1 ∙ one-given bytes_in (λ t. int_from t store) told.0 bytes (text-bytes told.0 bytes is)
+    in
+    let F : Applied → Type 0 = λ a. IsFound cells names store a (option_map int_cell (read bytes)) in
+    subst F (sym same) (found-int cells names store (read bytes))
 
 nth-char-found : (cells : List Cell) (names : List ℕ) (store : Store) (size : ℕ) (bytes : List ℕ) → length bytes ≡ size → EachByte bytes
     → (n : ℤ) → IsFound cells names store (nth_char bytes n store) (option_map (λ i. char_cell (get_or bytes i 0)) (index_in n size))

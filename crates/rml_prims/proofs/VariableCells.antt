@@ -14,11 +14,10 @@ use Rattle.rml_heap.specs.HeapState.{unset_cell, lvar_head}
 use Rattle.rml_heap.specs.Form as form
 use Rattle.rml_heap.specs.Form.{Form, IsWord, form_of}
 use Rattle.rml_heap.specs.Reading.{cell_at, look, place_of, Stands}
-use Rattle.rml_heap.proofs.Callers.{BlockStands, IsPlain, block-kind, block-stands, lvar-stands, map-some, outline-read, outline_of, root, standing, unset-form}
+use Rattle.rml_heap.proofs.Callers.{BlockStands, IsPlain, block-form, block-kind, block-stands, lvar-stands, map-some, outline-read, outline_of, root, standing, unset-form}
 use Rattle.rml_prims.specs.Binds.{Binds, HoldsEntry}
 use Rattle.rml_prims.specs.Shapes.{IsVariable, block_cell}
 use Rattle.rml_prims.proofs.PlainCells.{plain-root}
-use Rattle.rml_prims.proofs.Blocks.{block-form}
 use Rattle.rml_prims.proofs.Bindings.{lvar-form}
 
 -- ---- places of addresses

@@ -21,7 +21,7 @@ use Rattle.rml_heap.specs.Form as form
 use Rattle.rml_heap.specs.Form.{Form, IsWord, address, bare, form_of}
 use Rattle.rml_heap.specs.Reading.{cell_at, form_before, look, place_of, parts_of, block_value, read_block, read_form, value_below, Stands, AllStand}
 use Rattle.rml_trail.specs.TrailState.{TrailState}
-use Rattle.rml_heap.proofs.Callers.{block-address, fits-block}
+use Rattle.rml_heap.proofs.Callers.{added-block, before-end, block-address, block-form, fits-block, stands-no_lvar}
 use Rattle.rml_prims.specs.declared.run.PrimEnd.TheVariants as prim
 use Rattle.rml_prims.specs.Binds.{Binds, HoldsEntry, IsLvar}
 use Rattle.rml_prims.specs.Shapes.{IsVariable, block_cell, some_head}
@@ -30,7 +30,6 @@ use Rattle.rml_prims.specs.Found.{CanApply, DoNotFit, Grows, IsMade, IsOption, M
 use Rattle.rml_prims.specs.Exact.{State, IsExact, Runs}
 use Rattle.rml_prims.proofs.PlainCells.{con-stands}
 use Rattle.rml_prims.proofs.Arguments.{One, Two, one-told, two-told, one-given, two-given, one-cells, two-cells, one-values, two-values}
-use Rattle.rml_prims.proofs.Blocks.{added-block, before-end, block-form, stands-no_lvar}
 use Rattle.rml_prims.proofs.Bindings.{binds-new, binds-set, lvar-form}
 use Rattle.rml_prims.proofs.VariableCells.{HasNumber, entry-there, is-variable, place-new, stands-word, variable-number, word-set}
 use Rattle.rml_prims.proofs.Running.{one-place, state}

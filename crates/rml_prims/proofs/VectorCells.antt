@@ -19,13 +19,12 @@ use Rattle.rml_heap.specs.declared.cell.Cell.{Cell}
 use Rattle.rml_heap.specs.Form as form
 use Rattle.rml_heap.specs.Form.{Form, address, form_of, or_zero}
 use Rattle.rml_heap.specs.Reading.{cell_at, look, looks, parts_of, block_value, value_below, Stands, AllStand}
-use Rattle.rml_heap.proofs.Callers.{BlockStands, IsHead, block-address, block-kind, block-made, block-stands, below-higher, head-is, length-looks, outline, outline_of, stands-inside}
+use Rattle.rml_heap.proofs.Callers.{BlockStands, IsHead, below-higher, block-address, block-form, block-kind, block-made, block-stands, head-is, length-looks, outline, outline_of, stands-inside}
 use Rattle.rml_prims.specs.Shapes.{IsVector, OneVector, VectorAndInt, int_cell, vector_head, index_in}
 use Rattle.rml_prims.specs.Found.{CanApply, Finds, IsFound}
 use Rattle.rml_prims.proofs.PlainCells.{int-cell, int-value, one-cell, stands-head, HasHead}
 use Rattle.rml_prims.proofs.Arguments.{One, Two, one-told, two-told, one-given, two-given, one-cells, two-cells, one-values, two-values}
 use Rattle.rml_prims.proofs.Calculations.{int_or_no, found-int, ranged-is}
-use Rattle.rml_prims.proofs.Blocks.{block-form}
 
 -- ---- parts of a block
 

@@ -1,14 +1,14 @@
 -- What a built-in does to cells, by what it gives on the values and the store that the cells stand for.
-use Rattle.std.specs.Prelude.{ℕ, suc, ◌≡◌, ◌++◌, List, [], ◌∷◌, length, slice_set}
+use Rattle.std.specs.Prelude.{IsTrue, ℕ, suc, ◌≡◌, ◌++◌, List, [], ◌∷◌, length, slice_set}
 use Rattle.rml_value.specs.declared.value.Value.{Value}
 use Rattle.rml_builtin.specs.declared.row.Row.{Row}
-use Rattle.rml_builtin.specs.declared.row.Row.TheVariants.{StringInt, StringAppend, ListString, LvarSet, Print}
+use Rattle.rml_builtin.specs.declared.row.Row.TheVariants.{LvarSet}
 use Rattle.rml_builtin.specs.declared.applied.Applied.{Applied}
 use Rattle.rml_builtin.specs.declared.applied.Applied.TheVariants.{Yes, No, Wrong}
 use Rattle.rml_builtin.specs.declared.applied.Answer.{Answer}
 use Rattle.rml_builtin.specs.Applied.{Store}
 use Rattle.rml_builtin.specs.BuiltIns.{apply}
-use Rattle.rml_builtin.specs.Table.{outputs_of}
+use Rattle.rml_builtin.specs.Table.{is_silent, outputs_of}
 use Rattle.rml_heap.specs.declared.cell.Cell.{Cell}
 use Rattle.rml_heap.specs.HeapState.{HeapState, HasRoom}
 use Rattle.rml_heap.specs.Form.{address}
@@ -20,17 +20,9 @@ use Rattle.rml_prims.specs.Binds.{Binds}
 use Rattle.rml_prims.specs.Taken.{cells_taken}
 use Rattle.rml_prims.specs.Found.{CanApply, DoNotFit}
 
--- the rows that are built here
-abbrev pub IsBuilt : Row → Type 0
-IsBuilt StringInt = ⊥
-IsBuilt StringAppend = ⊥
-IsBuilt ListString = ⊥
-IsBuilt Print = ⊥
-IsBuilt row = Unit {0}
-
 -- a row can be run on these cells, which have a place for each of its results
 pub record CanRun (row : Row) (cells inputs outputs : List Cell) : Type 0 where
-  pub built : IsBuilt row
+  pub silent : IsTrue (is_silent row)
   pub applies : CanApply row cells inputs
   pub results : length outputs ≡ length (outputs_of row)
 

@@ -3,7 +3,7 @@ use Rattle.std.specs.Prelude.{ℕ, ◌≡◌, ◌≢◌, ◌+◌, ◌<◌, ◌++
 use Rattle.rml_value.specs.declared.value.Value.{Value}
 use Rattle.rml_value.specs.declared.value.TheConstants.{NONE}
 use Rattle.rml_builtin.specs.declared.row.Row.{Row}
-use Rattle.rml_builtin.specs.declared.row.Row.TheVariants.{IntString, StringInt, StringAppend, StringList, ListString, LvarNew, LvarGet, LvarSet, Print, ListVector, VectorList}
+use Rattle.rml_builtin.specs.declared.row.Row.TheVariants.{IntString, StringAppend, StringList, ListString, LvarNew, LvarGet, LvarSet, Print, ListVector, VectorList}
 use Rattle.rml_builtin.specs.declared.applied.Applied.{Applied}
 use Rattle.rml_builtin.specs.declared.applied.Applied.TheVariants.{Yes, No, Wrong}
 use Rattle.rml_builtin.specs.declared.applied.Answer.{Answer}
@@ -15,6 +15,7 @@ use Rattle.rml_heap.specs.HeapState.{HeapState, HasRoom, cells_used, unset_cell}
 use Rattle.rml_heap.specs.Form as form
 use Rattle.rml_heap.specs.Form.{IsWord, form_of}
 use Rattle.rml_heap.specs.Reading.{form_before, AllStand}
+use Rattle.rml_heap.specs.Text.{words_for, text_cells}
 use Rattle.rml_prims.specs.Shapes.{block_cell, con_cell, some_head}
 use Rattle.rml_prims.specs.Binds.{Binds}
 use Rattle.rml_prims.specs.Taken.{cells_taken}
@@ -35,7 +36,6 @@ IsFinding IntString = ⊥
 IsFinding StringAppend = ⊥
 IsFinding StringList = ⊥
 IsFinding ListString = ⊥
-IsFinding StringInt = ⊥
 IsFinding LvarNew = ⊥
 IsFinding LvarGet = ⊥
 IsFinding LvarSet = ⊥
@@ -60,7 +60,9 @@ Finds row cells inputs found = (names : List ℕ) (store : Store) (values : List
 
 abbrev pub IsMaking : Row → Type 0
 IsMaking IntString = Unit {0}
+IsMaking StringAppend = Unit {0}
 IsMaking StringList = Unit {0}
+IsMaking ListString = Unit {0}
 IsMaking LvarGet = Unit {0}
 IsMaking ListVector = Unit {0}
 IsMaking VectorList = Unit {0}
@@ -90,6 +92,11 @@ IsMade row names store before Wrong after made = ⊥
 
 abbrev pub Makes : Row → HeapState → List Cell → HeapState → Result Cell Full → Type 0
 Makes row before inputs after made = (names : List ℕ) (store : Store) (values : List Value) → Binds before.values names store → AllStand before.values names (length before.values) inputs values → IsMade row names store before (apply row values store) after made
+
+-- a text was placed at the end of the values, if its cells fit
+abbrev pub IsPlaced : List ℕ → HeapState → HeapState → Result Cell Full → Type 0
+IsPlaced bytes before after (Ok c) = HasRoom before (1 + words_for (length bytes)) × (after ≡ record before { values = before.values ++ text_cells bytes }) × (c ≡ block_cell (length before.values))
+IsPlaced bytes before after (Err full) = DoNotFit before (1 + words_for (length bytes)) full × (after ≡ before)
 
 -- values' cells may have been added, and nothing else was changed
 pub record Grows (before after : HeapState) : Type 0 where

@@ -1,5 +1,5 @@
 -- The cells of arguments, and what the calls behind a row take apart.
-use Rattle.std.specs.Prelude.{slice_index, nat_lt, if◌then◌else◌, Option, Some, None, negsuc, ℕ, suc, ◌≡◌, ◌+◌, ◌*◌, ◌<◌, ◌≤◌, ◌⊎◌, length, List, [], ◌∷◌, ℤ, pos}
+use Rattle.std.specs.Prelude.{slice_index, nat_lt, if◌then◌else◌, Option, Some, None, negsuc, ℕ, suc, ◌≡◌, ◌+◌, ◌*◌, ◌<◌, ◌≤◌, ◌⊎◌, length, map, List, [], ◌∷◌, ◌++◌, ℤ, pos}
 use Rattle.rml_value.specs.declared.value.TheConstants.{NIL, SOME}
 use Rattle.rml_heap.specs.declared.cell.Cell.{Cell}
 use Rattle.rml_heap.specs.declared.cell.TheConstants.{INT, CHAR, CON, BLOCK, CON_BLOCK, CONS_BLOCK, TEXT, VECTOR}
@@ -65,7 +65,7 @@ pub record IsText (cells : List Cell) (c : Cell) (at size : ℕ) (bytes : List �
   pub each : (i : ℕ) → slice_index bytes i < 256
   pub words : each_of word_of (looks cells (suc at) (words_for size)) ≡ Some (packed (words_for size) bytes)
 
--- one text, and a text and an integer
+-- one text, two, and a text and an integer
 pub record OneText (cells inputs : List Cell) : Type 0 where
   pub at : ℕ
   pub size : ℕ
@@ -73,6 +73,29 @@ pub record OneText (cells inputs : List Cell) : Type 0 where
   pub c : Cell
   pub is : inputs ≡ c ∷ []
   pub text : IsText cells c at size bytes
+
+pub record TwoTexts (cells inputs : List Cell) : Type 0 where
+  pub at : ℕ
+  pub size : ℕ
+  pub bytes : List ℕ
+  pub c : Cell
+  pub more_at : ℕ
+  pub more_size : ℕ
+  pub more_bytes : List ℕ
+  pub d : Cell
+  pub is : inputs ≡ c ∷ d ∷ []
+  pub text : IsText cells c at size bytes
+  pub more : IsText cells d more_at more_size more_bytes
+
+-- two texts, whose bytes one after the other are these
+pub record AreJoined (cells : List Cell) (at size more_at more_size : ℕ) (bytes : List ℕ) : Type 0 where
+  pub c : Cell
+  pub d : Cell
+  pub left : List ℕ
+  pub right : List ℕ
+  pub first : IsText cells c at size left
+  pub second : IsText cells d more_at more_size right
+  pub whole : bytes ≡ left ++ right
 
 pub record TextAndInt (cells inputs : List Cell) : Type 0 where
   pub at : ℕ
@@ -113,6 +136,13 @@ abbrev pub IsList : List Cell → ℕ → Cell → List Cell → Type 0
 IsList cells top c [] = c ≡ con_cell NIL
 IsList cells top c (item ∷ items) = (at : ℕ) × IsCons cells top c at item × IsList cells at (cell_at cells (suc (suc at))) items
 
+-- a list of characters
+pub record AreChars (cells : List Cell) (c : Cell) (bytes : List ℕ) : Type 0 where
+  pub top : ℕ
+  pub within : top ≤ length cells
+  pub list : IsList cells top c (map char_cell bytes)
+  pub each : (i : ℕ) → slice_index bytes i < 256
+
 -- a `::` of the cells
 pub record AtCons (cells : List Cell) (c : Cell) : Type 0 where
   pub top : ℕ
@@ -120,6 +150,13 @@ pub record AtCons (cells : List Cell) (c : Cell) : Type 0 where
   pub item : Cell
   pub within : top ≤ length cells
   pub cons : IsCons cells top c at item
+
+-- one list of characters
+pub record OneSpelling (cells inputs : List Cell) : Type 0 where
+  pub c : Cell
+  pub is : inputs ≡ c ∷ []
+  pub bytes : List ℕ
+  pub chars : AreChars cells c bytes
 
 -- one list
 pub record OneList (cells inputs : List Cell) : Type 0 where

@@ -10,6 +10,7 @@ ghost use Rattle.rml_prims.specs.Found.{CanApply, Finds, IsFinding};
 
 use crate::comparisons::compared;
 use crate::integers::{calculated, integer, turned};
+use crate::numerals::read_int;
 use crate::texts::{byte_at, text_of};
 use crate::vectors::{item_at, vector_of};
 use crate::words::{char, con, int};
@@ -137,6 +138,17 @@ fn text_length(heap: &Heap, inputs: &[Cell]) -> Option<Cell>
     length(text_of(heap, inputs[0]).size)
 }
 
+/// The integer that a text writes, or None where it writes none.
+fn written_int(heap: &Heap, inputs: &[Cell]) -> Option<Cell>
+    requires { OneText heap.now.values inputs.now }
+    ensures { Finds Row.StringInt heap.now.values inputs.now result }
+{
+    match read_int(heap, text_of(heap, inputs[0])) {
+        Some(n) => Some(int(n)),
+        None => None,
+    }
+}
+
 /// The character of a text at an index, or None outside.
 fn nth_char(heap: &Heap, inputs: &[Cell]) -> Option<Cell>
     requires { TextAndInt heap.now.values inputs.now }
@@ -178,6 +190,7 @@ pub fn find(row: Row, heap: &Heap, inputs: &[Cell]) -> Option<Cell>
     match row {
         Row::IntChar => character(inputs),
         Row::CharInt => Some(code(inputs)),
+        Row::StringInt => written_int(heap, inputs),
         Row::StringLength => text_length(heap, inputs),
         Row::StringNth => nth_char(heap, inputs),
         Row::VectorLength => vector_length(heap, inputs),

@@ -1,7 +1,6 @@
 //! The built-ins on the cells of a run: the result of a row from the cells of its arguments, as it is on the values and the store that
 //! the cells stand for.
-//! It knows nothing of code and registers, nor of frames. `print` is not here, since it writes; `string_int`, `string_append` and
-//! `list_string` are not here yet.
+//! It knows nothing of code and registers, nor of frames. `print` is not here, since it writes.
 #![tactic(auto)]
 
 mod comparisons;
@@ -11,6 +10,8 @@ pub mod laws;
 mod lists;
 mod lvars;
 mod making;
+mod numerals;
+mod packing;
 mod placing;
 mod run;
 mod texts;

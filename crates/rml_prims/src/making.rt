@@ -1,10 +1,11 @@
 //! The rows that make a block, if the cells for it fit.
 
-ghost use Rattle.rml_prims.specs.Shapes.{OneInt, OneList, OneText, OneVector};
+ghost use Rattle.rml_prims.specs.Shapes.{OneInt, OneList, OneSpelling, OneText, OneVector, TwoTexts};
 ghost use Rattle.rml_prims.specs.Found.{CanApply, Grows, IsMaking, Makes};
 
 use crate::lists::{list_of_text, list_of_vector};
 use crate::lvars;
+use crate::packing::{joined, text_of_list};
 use crate::placing::place_text;
 use crate::texts::text_of;
 use crate::vectors::{vector_of, vector_of_list};
@@ -30,6 +31,26 @@ fn decimal(heap: &mut Heap, inputs: &[Cell]) -> Result<Cell, Full>
 {
     let mut buffer = Buffer::new();
     place_text(heap, buffer.format(inputs[0].number).as_bytes())
+}
+
+/// One text and then another.
+fn appended(heap: &mut Heap, inputs: &[Cell]) -> Result<Cell, Full>
+    requires { TwoTexts heap.old.values inputs.now }
+    ensures makes { Makes Row.StringAppend heap.old inputs.now heap.new result }
+    ensures grows { Grows heap.old heap.new }
+{
+    let first = text_of(heap, inputs[0]);
+    let second = text_of(heap, inputs[1]);
+    joined(heap, first, second)
+}
+
+/// The text of a list of characters.
+fn list_string(heap: &mut Heap, inputs: &[Cell]) -> Result<Cell, Full>
+    requires { OneSpelling heap.old.values inputs.now }
+    ensures makes { Makes Row.ListString heap.old inputs.now heap.new result }
+    ensures grows { Grows heap.old heap.new }
+{
+    text_of_list(heap, inputs[0])
 }
 
 /// The list of the characters of a text.
@@ -70,7 +91,9 @@ pub fn make(row: Row, heap: &mut Heap, inputs: &[Cell]) -> Result<Cell, Full>
 {
     match row {
         Row::IntString => decimal(heap, inputs),
+        Row::StringAppend => appended(heap, inputs),
         Row::StringList => string_list(heap, inputs),
+        Row::ListString => list_string(heap, inputs),
         Row::LvarGet => held(heap, inputs),
         Row::ListVector => list_vector(heap, inputs),
         _ => vector_list(heap, inputs),

@@ -7,16 +7,9 @@ ghost use Rattle.rml_prims.specs.Shapes.{block_cell, cons_head};
 ghost use Rattle.rml_prims.specs.Found.{DoNotFit};
 
 use crate::lists::add_cons;
+use crate::texts::words_for;
 use crate::words::block;
 use rml_heap::{Cell, Full, Heap, add_text};
-
-/// How many words so many bytes take.
-fn words_for(bytes: u32) -> u32
-    requires { bytes < 2 ^ 31 }
-    ensures { result ≡ words_for_bytes bytes }
-{
-    (bytes + 7) / 8
-}
 
 /// Places a text. Full names its cells.
 pub fn place_text(heap: &mut Heap, bytes: &[u8]) -> Result<Cell, Full>

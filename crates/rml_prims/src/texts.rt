@@ -1,11 +1,19 @@
 //! Texts in cells: a head with the count of bytes, and the bytes, packed eight in a cell.
 
-ghost use Rattle.std.specs.Prelude.{ℕ, ◌≡◌, ◌<◌, ◌*◌, ◌/◌, List, drop, slice_index};
-ghost use Rattle.rml_heap.specs.Text.{word_of_bytes};
+ghost use Rattle.std.specs.Prelude.{ℕ, ◌≡◌, ◌<◌, ◌*◌, ◌/◌, ◌^◌, List, drop, slice_index};
+ghost use Rattle.rml_heap.specs.Text.{word_of_bytes, words_for as words_for_bytes};
 ghost use Rattle.rml_heap.specs.declared.cell.Cell.{Cell};
 ghost use Rattle.rml_prims.specs.Shapes.{IsText};
 
 use rml_heap::{Cell, Heap, address_of, count_of};
+
+/// How many words so many bytes take.
+pub fn words_for(bytes: u32) -> u32
+    requires { bytes < 2 ^ 31 }
+    ensures { result ≡ words_for_bytes bytes }
+{
+    (bytes + 7) / 8
+}
 
 /// A text in cells: the address of its head, and how many bytes it has.
 #[derive(Clone, Copy)]

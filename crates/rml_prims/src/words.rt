@@ -5,7 +5,7 @@ ghost use Rattle.rml_heap.specs.HeapState.{HasRoom};
 ghost use Rattle.rml_prims.specs.Found.{DoNotFit};
 
 use rml_heap::{
-    BLOCK, CHAR, CON, CON_BLOCK, CONS_BLOCK, Cell, Full, Heap, INT, LVAR, UNSET, VECTOR,
+    BLOCK, CHAR, CON, CON_BLOCK, CONS_BLOCK, Cell, Full, Heap, INT, LVAR, TEXT, UNSET, VECTOR,
 };
 use rml_value::SOME;
 
@@ -77,6 +77,16 @@ pub fn room_for(heap: &Heap, n: u32) -> Result<u32, Full>
     ensures full { IfErr result (DoNotFit heap.now n) }
 {
     heap.room(n)
+}
+
+/// The head of a text of so many bytes.
+pub fn text_head(bytes: u32) -> Cell
+    ensures { result ≡ record { kind = TEXT; number = pos bytes } }
+{
+    Cell {
+        kind: TEXT,
+        number: i64::from(bytes),
+    }
 }
 
 /// The head of a vector of so many items.

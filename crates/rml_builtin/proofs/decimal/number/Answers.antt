@@ -1,7 +1,8 @@
-use Rattle.std.proofs.Common.{◌∙◌, sym, arith, rules, refl}
-use Rattle.rml_builtin.proofs.Digits.{too-large}
+use Rattle.std.proofs.Common.{◌∙◌, sym, arith, refl}
+use Rattle.rml_builtin.proofs.Digits.{none-after}
 use Rattle.rml_builtin.proofs.decimal.number.Goals as goal
 
-pub returns-then-n-gt-FURTHEST : goal.returns-then-n-gt-FURTHEST
-returns-then-n-gt-FURTHEST c =
-    sym (c.loop-c.invariant.whole ∙ too-large c.loop-c.n c.loop-c.c-index _ c.args.digits.now (omega arith) refl (search rules) (omega arith))
+pub returns-in_err-n : goal.returns-in_err-n
+returns-in_err-n c =
+    c.from_residual.ensures
+    ∙ sym (c.loop-c.invariant.whole ∙ none-after c.loop-c.n c.loop-c.c-index _ c.args.digits.now (omega arith) refl (sym c.digit_after.ensures ∙ c.in_err-n.was))

@@ -1,7 +1,6 @@
 use Rattle.std.proofs.Common.{◌≡◌, ◌≤◌, ◌^◌, drop}
-use Rattle.rml_builtin.specs.Decimal.{natural_of}
+use Rattle.rml_builtin.specs.Decimal.{natural_of, number_after}
 use Rattle.rml_builtin.specs.Capped.{capped}
-use Rattle.rml_builtin.proofs.Digits.{number_after}
 use Rattle.rml_builtin.proofs.decimal.number.Given as goal
 
 abbrev pub invariant-loop-c : goal.invariant-loop-c

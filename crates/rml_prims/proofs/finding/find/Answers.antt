@@ -3,7 +3,7 @@ use Rattle.rml_builtin.specs.declared.row.Row.{Row}
 use Rattle.rml_prims.specs.Found.{CanApply}
 use Rattle.rml_prims.proofs.Calculations.{char-int, code-char, over-ints-taken, rest-ints}
 use Rattle.rml_prims.proofs.VectorCells.{length-vector, nth-vector}
-use Rattle.rml_prims.proofs.TextCells.{length-text-cell, nth-text}
+use Rattle.rml_prims.proofs.TextCells.{int-text, length-text-cell, nth-text}
 use Rattle.rml_prims.proofs.finding.find.Goals as goal
 
 pub character-requires : goal.character-requires
@@ -28,7 +28,7 @@ nth_item-requires c =
 
 pub over_ints-requires : goal.over_ints-requires
 over_ints-requires c =
-    let is = rest-ints c.args.row c.requires.row c.in_default.not-IntChar c.in_default.not-CharInt c.in_default.not-StringLength c.in_default.not-StringNth c.in_default.not-VectorLength c.in_default.not-VectorNth in
+    let is = rest-ints c.args.row c.requires.row c.in_default.not-IntChar c.in_default.not-CharInt c.in_default.not-StringLength c.in_default.not-StringNth c.in_default.not-VectorLength c.in_default.not-VectorNth c.in_default.not-StringInt in
     record { row = is; inputs = over-ints-taken c.args.row c.args.heap.now.values c.args.inputs.now is c.requires.applies }
 
 pub text_length-requires : goal.text_length-requires
@@ -40,3 +40,8 @@ pub nth_char-requires : goal.nth_char-requires
 nth_char-requires c =
     let P : Row → Type 0 = λ row. CanApply row c.args.heap.now.values c.args.inputs.now in
     nth-text c.args.heap.now.values c.args.inputs.now (subst P c.in-StringNth.is c.requires.applies)
+
+pub written_int-requires : goal.written_int-requires
+written_int-requires c =
+    let P : Row → Type 0 = λ row. CanApply row c.args.heap.now.values c.args.inputs.now in
+    int-text c.args.heap.now.values c.args.inputs.now (subst P c.in-StringInt.is c.requires.applies)
