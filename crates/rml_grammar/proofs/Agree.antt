@@ -1,18 +1,15 @@
 -- Readings that give what they should, or meet a limit.
-use Rattle.std.proofs.Common.{◌≡◌, ℕ, zero, suc, ◌-◌, ◌<◌, ◌≤◌, List, [], ◌∷◌, length, refl, sym, ap, subst, arith, Option, Some, None, Result, Ok, Err}
+use Rattle.std.proofs.Common.{◌≡◌, ℕ, zero, suc, ◌-◌, ◌<◌, ◌≤◌, List, [], ◌∷◌, length, refl, arith, Option, Some, None, Result, Ok, Err}
 use Rattle.rml_base.specs.declared.place.Place.{Place}
 use Rattle.rml_syntax.specs.declared.token.Spot.{Spot}
 use Rattle.rml_syntax.specs.declared.token.Key.{Key}
 use Rattle.rml_syntax.specs.declared.token.Mark.{Mark}
-use Rattle.rml_syntax.specs.declared.token.Mark.TheVariants as mark
 use Rattle.rml_syntax.specs.declared.rules.Long.{Long}
 use Rattle.rml_grammar.specs.declared.front.Front.TheVariants as front
 use Rattle.rml_grammar.specs.declared.fault.Fault.{Fault}
-use Rattle.rml_grammar.specs.declared.fault.ParseKind.{ParseKind}
-use Rattle.rml_grammar.specs.declared.fault.ParseKind.TheVariants as kind
-use Rattle.rml_grammar.specs.Tokens.{named, word, sign, after, after_word, front_of}
+use Rattle.rml_grammar.specs.Tokens.{word, sign, after, after_word, front_of}
 use Rattle.rml_grammar.specs.Reading.{◌>>=◌, Parser, follows, repeated, separated, before, long_at}
-use Rattle.rml_grammar.specs.Laws.{IsLimit, Agrees}
+use Rattle.rml_grammar.specs.Laws.{Agrees}
 use Rattle.rml_grammar.specs.SpelledNames.{IsLong, alone, dotted}
 use Rattle.rml_grammar.proofs.Views.{same-sign, same-word}
 use Rattle.rml_grammar.proofs.Holds.{Holds}

@@ -1,5 +1,5 @@
 -- An expression is read, unless a limit is met.
-use Rattle.std.proofs.Common.{◌≡◌, ℕ, zero, suc, ◌≤◌, List, [], ◌∷◌, length, refl, sym, arith, Option, Some, None, Result, Ok, Err, Bool, true, false}
+use Rattle.std.proofs.Common.{◌≡◌, ℕ, zero, suc, ◌≤◌, List, [], ◌∷◌, length, refl, arith, Some, None, Ok, true, false}
 use Rattle.rml_base.specs.declared.place.Place.{Place}
 use Rattle.rml_syntax.specs.declared.token.Spot.{Spot}
 use Rattle.rml_syntax.specs.declared.token.Mark.{Mark}
@@ -9,11 +9,10 @@ use Rattle.rml_syntax.specs.declared.rules.Exp.{Exp}
 use Rattle.rml_syntax.specs.declared.rules.Exp.TheVariants as exp
 use Rattle.rml_grammar.specs.declared.front.Front.{Front}
 use Rattle.rml_grammar.specs.declared.front.Front.TheVariants as front
-use Rattle.rml_grammar.specs.declared.fault.Fault.{Fault}
-use Rattle.rml_grammar.specs.Tokens.{sign, after, front_of, rest_of}
-use Rattle.rml_grammar.specs.Reading.{◌>>=◌, Parser, follows, repeated, separated, enclosed, enclosed_or_none, before, inside, long_at}
-use Rattle.rml_grammar.specs.Trees.{tuple_exp, chain_exp, applied_exp, results_exp, listed}
-use Rattle.rml_grammar.specs.Expressions.{Inner, eatom_by, eargument_by, eargument, eapp_by, eapp, chained_exp, exp_at, inner_exp, eapp_at, eapps_at, eatom_at, eargument_at, eargs_by, eargs_at, eseq_inside, eseq_by, eseq_at}
+use Rattle.rml_grammar.specs.Tokens.{sign, after, front_of}
+use Rattle.rml_grammar.specs.Reading.{◌>>=◌, Parser, follows, separated, enclosed, enclosed_or_none, long_at}
+use Rattle.rml_grammar.specs.Trees.{chain_exp, applied_exp}
+use Rattle.rml_grammar.specs.Expressions.{Inner, eatom_by, eargument_by, eargument, eapp, exp_at, inner_exp, eapp_at, eatom_at, eargument_at}
 use Rattle.rml_grammar.specs.SpelledNames.{IsLong}
 use Rattle.rml_grammar.specs.SpelledExpressions as s
 use Rattle.rml_grammar.specs.SpelledExpressions.{IsExp, IsEapps, IsEapp, IsEargs1, IsEatom, IsExpTuple, IsEatom1, IsExps, IsMoreExps, IsEargs, IsEseq, eargs_begin}

@@ -1,27 +1,21 @@
 -- A goal is read, unless a limit is met.
-use Rattle.std.proofs.Common.{◌≡◌, ℕ, zero, suc, ◌≤◌, List, [], ◌∷◌, length, refl, sym, arith, Option, Some, None, Result, Ok, Err}
-use Rattle.rml_base.specs.declared.place.Place.{Place}
+use Rattle.std.proofs.Common.{◌≡◌, ℕ, zero, suc, ◌≤◌, List, ◌∷◌, length, refl, arith}
 use Rattle.rml_syntax.specs.declared.token.Spot.{Spot}
-use Rattle.rml_syntax.specs.declared.token.Key.TheVariants as key
 use Rattle.rml_syntax.specs.declared.token.Mark.TheVariants as mark
-use Rattle.rml_syntax.specs.declared.rules.Long.{Long}
-use Rattle.rml_syntax.specs.declared.rules.Exp.{Exp}
 use Rattle.rml_syntax.specs.declared.rules.Pattern.{Pattern}
 use Rattle.rml_syntax.specs.declared.rules.Goal.{Goal}
 use Rattle.rml_syntax.specs.declared.rules.Goal.TheVariants as goal
 use Rattle.rml_grammar.specs.declared.front.Front.TheVariants as front
-use Rattle.rml_grammar.specs.declared.fault.Fault.{Fault}
-use Rattle.rml_grammar.specs.Tokens.{word, sign, after, front_of, rest_of}
-use Rattle.rml_grammar.specs.Reading.{◌>>=◌, Parser, follows, repeated, separated, before, inside, long_at}
-use Rattle.rml_grammar.specs.Patterns.{pat_at, pseq_at}
+use Rattle.rml_grammar.specs.Tokens.{sign, after, front_of}
+use Rattle.rml_grammar.specs.Reading.{◌>>=◌, follows, before, long_at}
+use Rattle.rml_grammar.specs.Patterns.{pat_at}
 use Rattle.rml_grammar.specs.Expressions.{exp_at, eargs_at}
-use Rattle.rml_grammar.specs.Goals.{Inner, call_results_by, call_results_at, long_goal_by, matching_at, gatom_by, gatom, goal_by, a_goal, goals_at, inner_goals, gatom_at, goal_at}
-use Rattle.rml_grammar.specs.SpelledNames.{IsLong}
+use Rattle.rml_grammar.specs.Goals.{Inner, call_results_at, long_goal_by, gatom, a_goal, goals_at, inner_goals, gatom_at, goal_at}
 use Rattle.rml_grammar.specs.SpelledGoals as s
 use Rattle.rml_grammar.specs.SpelledGoals.{IsCallResults, IsGoals, IsMoreGoals, IsGoal, IsGatom}
 use Rattle.rml_grammar.proofs.Levels.{goals_level}
 use Rattle.rml_grammar.specs.Laws.{Agrees}
-use Rattle.rml_grammar.proofs.Agree.{and-agrees, agrees-is, long-complete, long-front, sign-agrees, tail-none, tail-more, separated-agrees}
+use Rattle.rml_grammar.proofs.Agree.{and-agrees, agrees-is, long-complete, long-front, tail-none, tail-more, separated-agrees}
 use Rattle.rml_grammar.proofs.ShortGoals.{short-goal}
 use Rattle.rml_grammar.proofs.CompleteExpressions.{exp-complete}
 use Rattle.rml_grammar.proofs.CompletePatterns.{pat-complete}

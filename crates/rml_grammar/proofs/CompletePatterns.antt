@@ -1,5 +1,5 @@
 -- A pattern is read, unless a limit is met.
-use Rattle.std.proofs.Common.{◌≡◌, ℕ, zero, suc, ◌≤◌, List, [], ◌∷◌, length, refl, sym, arith, Option, Some, None, Result, Ok, Err, Bool, true, false}
+use Rattle.std.proofs.Common.{◌≡◌, ℕ, zero, suc, ◌≤◌, List, [], ◌∷◌, length, refl, arith, Some, None, Ok, true, false}
 use Rattle.rml_base.specs.declared.place.Place.{Place}
 use Rattle.rml_syntax.specs.declared.token.Spot.{Spot}
 use Rattle.rml_syntax.specs.declared.token.Key.TheVariants as key
@@ -11,11 +11,10 @@ use Rattle.rml_syntax.specs.declared.rules.Pattern.TheVariants as pat
 use Rattle.rml_grammar.proofs.Lacks.{binder-none}
 use Rattle.rml_grammar.specs.declared.front.Front.{Front}
 use Rattle.rml_grammar.specs.declared.front.Front.TheVariants as front
-use Rattle.rml_grammar.specs.declared.fault.Fault.{Fault}
-use Rattle.rml_grammar.specs.Tokens.{named, word, sign, after, front_of, rest_of}
-use Rattle.rml_grammar.specs.Reading.{◌>>=◌, Parser, follows, repeated, separated, enclosed, enclosed_or_none, before, inside, long_at}
-use Rattle.rml_grammar.specs.Trees.{tuple_pat, chain_pat, applied_pat, results_pat, listed}
-use Rattle.rml_grammar.specs.Patterns.{Inner, patom_by, pargument_by, pargument, papp_by, papp, pcons, bound_pat, binder_at, pcons_at, pat_at, inner_pat, papp_at, papps_at, patom_at, pargument_at, pargs_by, pargs_at, pseq_inside, pseq_by, pseq_at}
+use Rattle.rml_grammar.specs.Tokens.{named, word, sign, after, front_of}
+use Rattle.rml_grammar.specs.Reading.{◌>>=◌, Parser, follows, separated, enclosed, enclosed_or_none, long_at}
+use Rattle.rml_grammar.specs.Trees.{chain_pat, applied_pat}
+use Rattle.rml_grammar.specs.Patterns.{Inner, patom_by, pargument_by, pargument, papp, pcons, bound_pat, binder_at, pcons_at, pat_at, inner_pat, papp_at, patom_at, pargument_at}
 use Rattle.rml_grammar.specs.SpelledNames.{IsLong}
 use Rattle.rml_grammar.specs.SpelledPatterns as s
 use Rattle.rml_grammar.specs.SpelledPatterns.{IsPat, IsPcons, IsPapps, IsPapp, IsPargs1, IsPatom, IsPatTuple, IsPatom1, IsPats, IsMorePats, IsPargs, IsPseq, pargs_begin}

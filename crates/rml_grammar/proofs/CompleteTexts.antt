@@ -1,16 +1,11 @@
 -- A rule, a declaration and a text are read, unless a limit is met.
-use Rattle.std.proofs.Common.{◌≡◌, ℕ, zero, suc, ◌≤◌, ◌<◌, ◌-◌, List, [], ◌∷◌, length, refl, sym, ap, subst, arith, Option, Some, None, Result, Ok, Err}
+use Rattle.std.proofs.Common.{◌≡◌, ℕ, zero, suc, ◌≤◌, ◌-◌, List, [], ◌∷◌, length, refl, arith, Option, Some, None, Ok}
 use Rattle.rml_base.specs.declared.place.Place.{Place}
 use Rattle.rml_syntax.specs.declared.token.Spot.{Spot}
-use Rattle.rml_syntax.specs.declared.token.Token.{Token}
-use Rattle.rml_syntax.specs.declared.token.Token.TheVariants as token
 use Rattle.rml_syntax.specs.declared.token.Lit.TheVariants as lit
-use Rattle.rml_syntax.specs.declared.token.Key.{Key}
 use Rattle.rml_syntax.specs.declared.token.Key.TheVariants as key
-use Rattle.rml_syntax.specs.declared.token.Mark.{Mark}
 use Rattle.rml_syntax.specs.declared.token.Mark.TheVariants as mark
 use Rattle.rml_syntax.specs.declared.rules.Exp.{Exp}
-use Rattle.rml_syntax.specs.declared.rules.Pattern.{Pattern}
 use Rattle.rml_syntax.specs.declared.rules.Goal.{Goal}
 use Rattle.rml_syntax.specs.declared.rules.Rule.{Rule}
 use Rattle.rml_syntax.specs.declared.types.TypeExp.{TypeExp}
@@ -23,30 +18,23 @@ use Rattle.rml_syntax.specs.declared.texts.Decl.{Decl}
 use Rattle.rml_syntax.specs.declared.texts.Decl.TheVariants as decl
 use Rattle.rml_syntax.specs.declared.texts.Text.{Text}
 use Rattle.rml_grammar.proofs.Lacks.{clause-none, decl-none, spec-none, uses-none}
-use Rattle.rml_grammar.specs.declared.front.Front.{Front}
 use Rattle.rml_grammar.specs.declared.front.Front.TheVariants as front
-use Rattle.rml_grammar.specs.declared.front.Opening.{Opening}
-use Rattle.rml_grammar.specs.declared.front.Opening.TheVariants as opening
-use Rattle.rml_grammar.specs.declared.fault.Fault.{Fault}
-use Rattle.rml_grammar.specs.declared.fault.ParseKind.TheVariants as kind
-use Rattle.rml_grammar.specs.Tokens.{named, word, tyvar, literal, sign, dashes, after, after_word, front_of, opening_of, rest_of}
-use Rattle.rml_grammar.specs.Reading.{◌>>=◌, Parser, refused, unexpected, follows, repeated, separated, before, name_at}
-use Rattle.rml_grammar.specs.Types.{tatom_at, type_at, sig_at, inner_bracket}
+use Rattle.rml_grammar.specs.Tokens.{named, word, tyvar, literal, sign, dashes, after, after_word, front_of}
+use Rattle.rml_grammar.specs.Reading.{◌>>=◌, follows, repeated, separated, before}
+use Rattle.rml_grammar.specs.Types.{tatom_at, type_at, sig_at}
 use Rattle.rml_grammar.specs.Patterns.{pargs_at}
-use Rattle.rml_grammar.specs.Expressions.{exp_at, eseq_at}
+use Rattle.rml_grammar.specs.Expressions.{exp_at}
 use Rattle.rml_grammar.specs.Goals.{goals_at}
 use Rattle.rml_grammar.specs.Texts as g
-use Rattle.rml_grammar.specs.SpelledTypes as y
-use Rattle.rml_grammar.specs.SpelledTypes.{IsTatom, IsFactors, IsType, IsSig}
-use Rattle.rml_grammar.specs.SpelledPatterns.{IsPargs}
-use Rattle.rml_grammar.specs.SpelledExpressions.{IsExp, IsEseq}
+use Rattle.rml_grammar.specs.Trees.{Head, rule_of}
+use Rattle.rml_grammar.specs.SpelledTypes.{IsType}
 use Rattle.rml_grammar.specs.SpelledGoals.{IsGoals}
 use Rattle.rml_grammar.specs.SpelledTexts as s
 use Rattle.rml_grammar.specs.SpelledTexts.{IsMoreTyvars, IsThead, IsCon, IsMoreCons, IsData, IsMoreDatas, IsDatas, IsAbbrev, IsSpec, IsRuleResults, IsHead, IsClause, IsMoreClauses, IsOptionalType, IsOptionalSig, IsDecl, IsUses, IsSpecs, IsDecls, Derives}
 use Rattle.rml_grammar.proofs.Levels.{clauses_none, clauses_one, clauses_full, text_is, whole_is}
 use Rattle.rml_grammar.specs.Laws.{Agrees}
 use Rattle.rml_grammar.proofs.Agree.{and-agrees, agrees-is, before-agrees, before-word, long-front, tail-none, tail-more, separated-agrees}
-use Rattle.rml_grammar.proofs.ShortTexts.{short-more_tyvars, shorter-con, shorter-data, shorter-spec, shorter-clause, shorter-decl}
+use Rattle.rml_grammar.proofs.ShortTexts.{shorter-con, shorter-data, shorter-spec, shorter-decl}
 use Rattle.rml_grammar.proofs.SoundTexts.{premises-is}
 use Rattle.rml_grammar.specs.SpelledGoals as o
 use Rattle.rml_grammar.specs.SpelledGoals.{IsGoal, IsGatom}
@@ -111,7 +99,7 @@ results-complete : {us rest : List Spot} {es : List Exp} → IsRuleResults us es
 results-complete (s.no_results e) i = rw e refl
 results-complete (s.results a) i = eseq-complete a i
 
-head-complete : {us rest : List Spot} {h : g.Head} → IsHead us h rest → (i : ℕ) → Agrees (g.head_at i us) (h, rest)
+head-complete : {us rest : List Spot} {h : Head} → IsHead us h rest → (i : ℕ) → Agrees (g.head_at i us) (h, rest)
 head-complete (s.conclusion {us} {vs} {rest} {n} {p} {ps} {es} a b) i = and-agrees (pargs_at i us) _ (ps, vs) (((n, p), ps, es), rest) (pargs-complete a i)
     (and-agrees (g.rule_results_at i vs) _ (es, rest) (((n, p), ps, es), rest) (results-complete b i) refl)
 
@@ -132,10 +120,10 @@ premises-complete : {us vs : List Spot} {d : ℕ} {q : Place} {xs : List Goal} �
 premises-complete {us} {vs} {d} {q} {xs} a i = rw (premises-is i us (front_of us) (no-dashes a)) (and-agrees (goals_at i us) _ (xs, dashes d q ∷ vs) (xs, vs) (goals-complete a i) refl)
 
 pub clause-complete : {us rest : List Spot} {r : Rule} → IsClause us r rest → (i : ℕ) → Agrees (g.clause_at i us) (r, rest)
-clause-complete (s.axiom_head {us} {rest} {p} {h} a) i = and-agrees (g.head_at i us) _ (h, rest) (g.rule_of p [] h (length (word key.KAxiom p ∷ us) - length rest), rest) (head-complete a i) refl
-clause-complete (s.rule_head {us} {rest} {d} {p} {q} {h} a) i = and-agrees (g.head_at i us) _ (h, rest) (g.rule_of p [] h (length (word key.KRule p ∷ dashes d q ∷ us) - length rest), rest) (head-complete a i) refl
-clause-complete (s.rule_goals {us} {vs} {rest} {d} {p} {q} {gs = xs} {h} a b) i = and-agrees (g.premises_at i us) _ (xs, vs) (g.rule_of p xs h (length (word key.KRule p ∷ us) - length rest), rest) (premises-complete a i)
-    (and-agrees (g.head_at i vs) _ (h, rest) (g.rule_of p xs h (length (word key.KRule p ∷ us) - length rest), rest) (head-complete b i) refl)
+clause-complete (s.axiom_head {us} {rest} {p} {h} a) i = and-agrees (g.head_at i us) _ (h, rest) (rule_of p [] h (length (word key.KAxiom p ∷ us) - length rest), rest) (head-complete a i) refl
+clause-complete (s.rule_head {us} {rest} {d} {p} {q} {h} a) i = and-agrees (g.head_at i us) _ (h, rest) (rule_of p [] h (length (word key.KRule p ∷ dashes d q ∷ us) - length rest), rest) (head-complete a i) refl
+clause-complete (s.rule_goals {us} {vs} {rest} {d} {p} {q} {gs = xs} {h} a b) i = and-agrees (g.premises_at i us) _ (xs, vs) (rule_of p xs h (length (word key.KRule p ∷ us) - length rest), rest) (premises-complete a i)
+    (and-agrees (g.head_at i vs) _ (h, rest) (rule_of p xs h (length (word key.KRule p ∷ us) - length rest), rest) (head-complete b i) refl)
 
 next-clause : {us rest : List Spot} {r : Rule} → IsClause us r rest → g.clause_next us ≡ Some us
 next-clause (s.axiom_head a) = refl

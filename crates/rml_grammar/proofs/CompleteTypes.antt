@@ -1,26 +1,24 @@
 -- A type or a signature is read, unless a limit is met.
-use Rattle.std.proofs.Common.{◌≡◌, ℕ, zero, suc, ◌≤◌, ◌<◌, List, [], ◌∷◌, length, refl, sym, ap, arith, Option, Some, None, Result, Ok, Err}
+use Rattle.std.proofs.Common.{◌≡◌, ℕ, zero, suc, ◌≤◌, List, [], ◌∷◌, length, refl, ap, arith, Some, None, Result, Ok, Err}
 use Rattle.rml_base.specs.declared.place.Place.{Place}
 use Rattle.rml_syntax.specs.declared.token.Spot.{Spot}
-use Rattle.rml_syntax.specs.declared.token.Mark.{Mark}
 use Rattle.rml_syntax.specs.declared.token.Mark.TheVariants as mark
 use Rattle.rml_syntax.specs.declared.rules.Long.{Long}
 use Rattle.rml_syntax.specs.declared.types.TypeExp.{TypeExp}
 use Rattle.rml_syntax.specs.declared.types.TypeExp.TheVariants as type
 use Rattle.rml_syntax.specs.declared.types.Sig.{Sig}
 use Rattle.rml_grammar.proofs.Lacks.{name-none}
-use Rattle.rml_grammar.specs.declared.front.Front.{Front}
 use Rattle.rml_grammar.specs.declared.front.Front.TheVariants as front
 use Rattle.rml_grammar.specs.declared.types.Bracket.{Bracket}
 use Rattle.rml_grammar.specs.declared.types.Bracket.TheVariants as bracket
 use Rattle.rml_grammar.specs.declared.types.Types.{Types}
 use Rattle.rml_grammar.specs.declared.types.Types.TheVariants as types
 use Rattle.rml_grammar.specs.declared.fault.Fault.{Fault}
-use Rattle.rml_grammar.specs.Tokens.{tyvar, sign, after, front_of, rest_of}
+use Rattle.rml_grammar.specs.Tokens.{sign, after, front_of}
 use Rattle.rml_grammar.specs.Lacks.{LacksName}
-use Rattle.rml_grammar.specs.Reading.{◌>>=◌, Parser, follows, repeated, separated, before, inside, unexpected, long_at}
+use Rattle.rml_grammar.specs.Reading.{◌>>=◌, Parser, follows, repeated, separated, before, unexpected, long_at}
 use Rattle.rml_grammar.specs.Trees.{named_type, product_type}
-use Rattle.rml_grammar.specs.Types.{Inner, name_by, name_next, longs_at, bracket_type, tatom_by, tatom, product, one_from, tseq_from, tseq_inside, tseq_by, tseq, types_of, outputs, signature, bracket_from, bracket_by, in_bracket, bracket_at, inner_bracket, tatom_at, type_at, tseq_at, sig_at}
+use Rattle.rml_grammar.specs.Types.{Inner, name_next, longs_at, bracket_type, tatom, product, one_from, tseq_from, tseq_inside, tseq, types_of, outputs, bracket_at, inner_bracket, tatom_at, type_at, tseq_at, sig_at}
 use Rattle.rml_grammar.specs.SpelledNames.{IsLong}
 use Rattle.rml_grammar.specs.SpelledTypes as s
 use Rattle.rml_grammar.specs.SpelledTypes.{IsLongs, IsSig, IsTseq, IsTypeTuple, IsMoreTypes, IsType, IsFactors, IsTatom, IsTbase}
@@ -29,7 +27,7 @@ use Rattle.rml_grammar.proofs.Views as v
 use Rattle.rml_grammar.proofs.Views.{Has, has, same-sign}
 use Rattle.rml_grammar.specs.Laws.{Agrees}
 use Rattle.rml_grammar.proofs.Agree.{and-agrees, agrees-is, long-complete, long-front, sign-agrees, tail-none, tail-more, separated-agrees}
-use Rattle.rml_grammar.proofs.ShortTypes.{shorter-long, short-longs, short-type, short-tatom}
+use Rattle.rml_grammar.proofs.ShortTypes.{shorter-long, short-type, short-tatom}
 use Rattle.rml_grammar.proofs.SoundTypes.{seq-is}
 
 -- names

@@ -8,7 +8,7 @@ use Rattle.rml_syntax.specs.declared.token.Mark.{Mark}
 use Rattle.rml_syntax.specs.declared.token.Mark.TheVariants as mark
 use Rattle.rml_grammar.specs.declared.fault.Fault.{Fault}
 use Rattle.rml_grammar.specs.Depths.{deepest}
-use Rattle.rml_grammar.specs.Reading.{◌>>=◌, Parser, follows, repeated, separated, then_by, before, enclosed, enclosed_or_none, inside, refused, unexpected}
+use Rattle.rml_grammar.specs.Reading.{◌>>=◌, Parser, follows, repeated, separated, then_by, before, enclosed, enclosed_or_none, inside}
 use Rattle.rml_grammar.specs.Tokens.{after}
 use Rattle.rml_grammar.proofs.Holds.{Holds, and-holds}
 

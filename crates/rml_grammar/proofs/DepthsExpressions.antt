@@ -1,5 +1,5 @@
 -- An expression is at most three deep for each bracket that may open in it, and three.
-use Rattle.std.proofs.Common.{◌≡◌, ℕ, zero, suc, ◌+◌, ◌*◌, ◌≤◌, List, [], ◌∷◌, map, refl, ap, ◌∙◌, arith, Option, Some, None, Result, Ok, Err}
+use Rattle.std.proofs.Common.{◌≡◌, ℕ, zero, suc, ◌+◌, ◌*◌, ◌≤◌, List, [], ◌∷◌, refl, arith, Option, Some, None, Result, Ok, Err}
 use Rattle.std.specs.Prelude.{All}
 use Rattle.std.proofs.lemmas.List.Elements.{All-cons, All-head, All-nil, All-weaker}
 use Rattle.rml_syntax.specs.declared.token.Spot.{Spot}
@@ -11,7 +11,7 @@ use Rattle.rml_grammar.specs.declared.front.Front.{Front}
 use Rattle.rml_grammar.specs.declared.front.Front.TheVariants as front
 use Rattle.rml_grammar.specs.declared.fault.Fault.{Fault}
 use Rattle.rml_grammar.specs.Tokens.{after, front_of, rest_of}
-use Rattle.rml_grammar.specs.Reading.{Parser, enclosed, enclosed_or_none, inside, long_at, repeated, separated}
+use Rattle.rml_grammar.specs.Reading.{Parser, enclosed, enclosed_or_none, inside, long_at, separated}
 use Rattle.rml_grammar.specs.Trees.{applied_exp, chain_exp, listed, results_exp, tuple_exp}
 use Rattle.rml_grammar.specs.Expressions.{Inner, chained_exp, eapp, eapp_at, eapp_by, eapps_at, eargs_at, eargs_by, eargument, eargument_by, eatom_by, eseq_at, eseq_by, eseq_inside, exp_at, inner_exp}
 use Rattle.rml_grammar.specs.Depths.{exp_depth, exp_depth_at, exps_depth}

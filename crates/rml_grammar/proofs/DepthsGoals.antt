@@ -1,5 +1,5 @@
 -- A goal is at most four deep for each bracket that may open in it, and six.
-use Rattle.std.proofs.Common.{◌≡◌, ℕ, zero, suc, ◌+◌, ◌*◌, ◌≤◌, List, [], ◌∷◌, map, max, refl, arith, Option, Some, None, Result, Ok, Err}
+use Rattle.std.proofs.Common.{ℕ, zero, suc, ◌+◌, ◌*◌, ◌≤◌, List, max, arith, Option, Some, None, Result, Ok, Err}
 use Rattle.std.specs.Prelude.{All}
 use Rattle.std.proofs.Math.Nat.{max-le}
 use Rattle.std.proofs.lemmas.List.Elements.{All-nil, All-weaker}
@@ -14,10 +14,10 @@ use Rattle.rml_grammar.specs.declared.fault.Fault.{Fault}
 use Rattle.rml_grammar.specs.declared.front.Front.{Front}
 use Rattle.rml_grammar.specs.declared.front.Front.TheVariants as front
 use Rattle.rml_grammar.specs.Tokens.{after, front_of, rest_of}
-use Rattle.rml_grammar.specs.Reading.{◌>>=◌, Parser, before, inside, long_at, separated}
-use Rattle.rml_grammar.specs.Patterns.{pat_at, pseq_at}
+use Rattle.rml_grammar.specs.Reading.{◌>>=◌, before, inside, long_at, separated}
+use Rattle.rml_grammar.specs.Patterns.{pat_at}
 use Rattle.rml_grammar.specs.Expressions.{eargs_at, exp_at}
-use Rattle.rml_grammar.specs.Goals.{Inner, a_goal, call_results_at, call_results_by, gatom, gatom_by, goal_at, goal_by, goals_at, inner_goals, long_goal_by, matching_at}
+use Rattle.rml_grammar.specs.Goals.{Inner, a_goal, call_results_at, call_results_by, gatom, gatom_by, goal_by, goals_at, long_goal_by, matching_at}
 use Rattle.rml_grammar.specs.Depths.{exps_depth, goal_depth, goal_depth_at, patterns_depth}
 use Rattle.rml_grammar.proofs.Folds.{goal-All, goal-Call, goal-Equal, goal-Let, goal-Not}
 use Rattle.rml_grammar.proofs.Levels.{goals_level}

@@ -1,5 +1,5 @@
 -- A pattern is at most four deep for each bracket that may open in it, and four.
-use Rattle.std.proofs.Common.{◌≡◌, ℕ, zero, suc, ◌+◌, ◌*◌, ◌≤◌, List, [], ◌∷◌, map, refl, ap, ◌∙◌, arith, Option, Some, None, Result, Ok, Err}
+use Rattle.std.proofs.Common.{◌≡◌, ℕ, zero, suc, ◌+◌, ◌*◌, ◌≤◌, List, [], ◌∷◌, refl, arith, Option, Some, None, Result, Ok, Err}
 use Rattle.std.specs.Prelude.{All}
 use Rattle.std.proofs.lemmas.List.Elements.{All-cons, All-head, All-nil, All-weaker}
 use Rattle.rml_base.specs.declared.place.Place.{Place}
@@ -12,7 +12,7 @@ use Rattle.rml_grammar.specs.declared.front.Front.{Front}
 use Rattle.rml_grammar.specs.declared.front.Front.TheVariants as front
 use Rattle.rml_grammar.specs.declared.fault.Fault.{Fault}
 use Rattle.rml_grammar.specs.Tokens.{after, front_of, rest_of}
-use Rattle.rml_grammar.specs.Reading.{Parser, enclosed, enclosed_or_none, inside, long_at, repeated, separated}
+use Rattle.rml_grammar.specs.Reading.{Parser, enclosed, enclosed_or_none, inside, long_at, separated}
 use Rattle.rml_grammar.specs.Trees.{applied_pat, chain_pat, listed, results_pat, tuple_pat}
 use Rattle.rml_grammar.specs.Patterns.{Inner, bound_pat, binder_at, inner_pat, papp, papp_at, papp_by, papps_at, pargs_at, pargs_by, pargument, pargument_by, pat_at, patom_by, pcons, pseq_at, pseq_by, pseq_inside}
 use Rattle.rml_grammar.specs.Depths.{pattern_depth, pattern_depth_at, patterns_depth}

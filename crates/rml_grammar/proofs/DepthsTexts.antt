@@ -1,27 +1,23 @@
 -- What stands in a declaration is at most four deep for each bracket that may open in it, and six.
-use Rattle.std.proofs.Common.{◌≡◌, ℕ, zero, suc, ◌+◌, ◌*◌, ◌-◌, ◌<◌, ◌≤◌, List, [], ◌∷◌, ◌++◌, length, map, max, refl, arith, Option, Some, None, Result, Ok, Err}
+use Rattle.std.proofs.Common.{◌≡◌, ℕ, zero, suc, ◌+◌, ◌*◌, ◌-◌, ◌<◌, ◌≤◌, List, [], ◌∷◌, length, refl, arith, Option, Some, None, Ok}
 use Rattle.std.specs.Prelude.{All}
 use Rattle.std.specs.List.{flat_map}
 use Rattle.std.proofs.Math.Nat.{max-le}
 use Rattle.std.proofs.lemmas.List.Concat.{flat_map-cons}
-use Rattle.std.proofs.lemmas.List.Elements.{All-append, All-cons, All-head, All-nil, All-tail, All-weaker}
+use Rattle.std.proofs.lemmas.List.Elements.{All-append, All-cons, All-head, All-nil, All-tail}
 use Rattle.rml_base.specs.declared.place.Place.{Place}
 use Rattle.rml_syntax.specs.declared.token.Spot.{Spot}
 use Rattle.rml_syntax.specs.declared.token.Key.TheVariants as key
 use Rattle.rml_syntax.specs.declared.token.Mark.TheVariants as mark
-use Rattle.rml_syntax.specs.declared.rules.Exp.{Exp}
 use Rattle.rml_syntax.specs.declared.rules.Goal.{Goal}
-use Rattle.rml_syntax.specs.declared.rules.Pattern.{Pattern}
 use Rattle.rml_syntax.specs.declared.rules.Rule.{Rule}
 use Rattle.rml_syntax.specs.declared.types.ConBind.{ConBind}
 use Rattle.rml_syntax.specs.declared.types.DataBind.{DataBind}
 use Rattle.rml_syntax.specs.declared.types.Sig.{Sig}
 use Rattle.rml_syntax.specs.declared.types.TypeExp.{TypeExp}
 use Rattle.rml_syntax.specs.declared.texts.Decl.{Decl}
-use Rattle.rml_syntax.specs.declared.texts.Decl.TheVariants as decl
 use Rattle.rml_syntax.specs.declared.texts.Text.{Text}
 use Rattle.rml_syntax.specs.declared.texts.Uses.{Uses}
-use Rattle.rml_grammar.specs.declared.fault.Fault.{Fault}
 use Rattle.rml_grammar.specs.declared.front.Front.{Front}
 use Rattle.rml_grammar.specs.declared.front.Front.TheVariants as front
 use Rattle.rml_grammar.specs.declared.front.Opening.{Opening}
@@ -29,14 +25,15 @@ use Rattle.rml_grammar.specs.declared.front.Opening.TheVariants as opening
 use Rattle.rml_grammar.specs.Tokens.{after, after_word, front_of, opening_of, rest_of}
 use Rattle.rml_grammar.specs.Reading.{◌>>=◌, Parser, before, name_at, repeated, separated}
 use Rattle.rml_grammar.specs.Patterns.{pargs_at}
-use Rattle.rml_grammar.specs.Expressions.{eseq_at, exp_at}
+use Rattle.rml_grammar.specs.Expressions.{exp_at}
 use Rattle.rml_grammar.specs.Goals.{goals_at}
 use Rattle.rml_grammar.specs.Types.{sig_at, tatom_at, type_at}
-use Rattle.rml_grammar.specs.Texts.{Head, abbrev_at, abstype_at, body_at, clause_at, clause_by, clause_next, clauses_at, con_at, data_at, datas_at, decl_at, decl_by, decl_next, head_at, interface_at, module_at, optional_by, parts_by, premises_at, premises_by, relation_at, relation_spec_at, rule_of, rule_results_at, rule_results_by, rules_at, spec_at, spec_by, spec_next, text_at, thead_at, then_dashes, uses_at, uses_next, val_at, val_spec_at, whole_by, whole_text}
-use Rattle.rml_grammar.specs.Depths.{constructor_depth, decl_depth, deepest, depth_or_none, exp_depth, exps_depth, goal_depth, patterns_depth, rule_depth, sig_depth, type_depth, types_depth}
+use Rattle.rml_grammar.specs.Texts.{abbrev_at, abstype_at, body_at, clause_at, clause_by, clause_next, clauses_at, con_at, data_at, datas_at, decl_at, decl_by, decl_next, head_at, interface_at, module_at, optional_by, parts_by, premises_at, premises_by, relation_at, relation_spec_at, rule_results_at, rule_results_by, rules_at, spec_at, spec_by, spec_next, text_at, thead_at, then_dashes, uses_at, uses_next, val_at, val_spec_at, whole_by, whole_text}
+use Rattle.rml_grammar.specs.Depths.{constructor_depth, decl_depth, depth_or_none, goal_depth, rule_depth, sig_depth, type_depth}
 use Rattle.rml_grammar.specs.Limits.{WithinLimits}
 use Rattle.rml_grammar.specs.Sizes.{declarations}
 use Rattle.rml_grammar.specs.SpelledTexts.{Derives}
+use Rattle.rml_grammar.specs.Trees.{Head, rule_of}
 use Rattle.rml_grammar.proofs.Holds.{Holds, and-holds}
 use Rattle.rml_grammar.proofs.Levels.{clauses_full, clauses_none, clauses_one, text_is, whole_is}
 use Rattle.rml_grammar.proofs.Depths.{Always, Gives, Whatever, and-gives, anything, before-gives, deepest-at-most, repeated-gives, separated-gives}

@@ -1,5 +1,5 @@
 -- Readings that decide what they decide before a token alike, whatever follows that token.
-use Rattle.std.proofs.Common.{◌≡◌, ℕ, zero, suc, ◌<◌, ◌≤◌, true, false, Bool, List, [], ◌∷◌, ◌++◌, length, refl, sym, ap, arith, Option, Some, None, Result, Ok, Err, ◌⊎◌, inl, inr}
+use Rattle.std.proofs.Common.{◌≡◌, ℕ, zero, suc, ◌<◌, ◌≤◌, true, false, Bool, List, [], ◌∷◌, ◌++◌, length, refl, ap, arith, Option, Some, None, Result, Ok, Err, ◌⊎◌, inl, inr}
 use Rattle.std.proofs.Math.ListN.{length-append}
 use Rattle.std.specs.Prelude.{if◌then◌else◌}
 use denote.Enum.Bare.{sameb}
@@ -12,13 +12,13 @@ use Rattle.rml_syntax.specs.declared.token.Mark.{Mark}
 use Rattle.rml_syntax.specs.declared.token.Mark.TheVariants as mark
 use Rattle.rml_syntax.specs.contracts.token.Mark as marks
 use Rattle.rml_syntax.specs.contracts.token.Key as keys
-use Rattle.rml_syntax.specs.declared.rules.Long.{Long}
 use Rattle.rml_grammar.specs.declared.front.Front.{Front}
 use Rattle.rml_grammar.specs.declared.front.Opening.{Opening}
 use Rattle.rml_grammar.specs.declared.fault.Fault.{Fault}
 use Rattle.rml_grammar.specs.declared.fault.ParseKind.{ParseKind}
 use Rattle.rml_grammar.specs.Tokens.{sign, word, after, after_word, front_of, opening_of, rest_of}
-use Rattle.rml_grammar.specs.Reading.{◌>>=◌, Parser, refused, unexpected, follows, repeated, separated, then_by, before, enclosed, enclosed_or_none, inside, name_at, name_in, qualified, long_at, short, within}
+use Rattle.rml_grammar.specs.Reading.{◌>>=◌, Parser, refused, follows, repeated, separated, then_by, before, enclosed, enclosed_or_none, inside, name_at, name_in, qualified, long_at}
+use Rattle.rml_grammar.specs.Trees.{short, within}
 use Rattle.rml_grammar.proofs.Holds.{Holds}
 use Rattle.rml_grammar.proofs.Views.{Has, has, there, lacking, HasWord, has-word, said, unsaid, same-sign, same-word}
 

@@ -1,19 +1,15 @@
 -- An expression is refused at a token whatever follows that token.
-use Rattle.std.proofs.Common.{◌≡◌, ℕ, zero, suc, List, [], ◌∷◌, refl, Option, Some, None, Result, Ok, Err}
-use Rattle.rml_syntax.specs.declared.token.Spot.{Spot}
+use Rattle.std.proofs.Common.{ℕ, zero, suc, [], ◌∷◌, refl, Some, None, Ok}
 use Rattle.rml_syntax.specs.declared.token.Mark.TheVariants as mark
-use Rattle.rml_syntax.specs.declared.rules.Long.{Long}
-use Rattle.rml_syntax.specs.declared.rules.Exp.{Exp}
 use Rattle.rml_syntax.specs.declared.rules.Exp.TheVariants as exp
 use Rattle.rml_grammar.specs.declared.front.Front.{Front}
 use Rattle.rml_grammar.specs.declared.front.Front.TheVariants as front
-use Rattle.rml_grammar.specs.declared.fault.Fault.{Fault}
-use Rattle.rml_grammar.specs.Tokens.{after, front_of, rest_of}
-use Rattle.rml_grammar.specs.Reading.{◌>>=◌, Parser, repeated, separated, enclosed, enclosed_or_none, inside, long_at}
+use Rattle.rml_grammar.specs.Tokens.{after, rest_of}
+use Rattle.rml_grammar.specs.Reading.{◌>>=◌, separated, enclosed, enclosed_or_none, inside, long_at}
 use Rattle.rml_grammar.specs.Trees.{tuple_exp, chain_exp, applied_exp, results_exp, listed}
 use Rattle.rml_grammar.specs.Expressions.{Inner, eatom_by, eargument_by, eargument, eapp_by, eapp, chained_exp, exp_at, inner_exp, eapp_at, eapps_at, eargs_by, eargs_at, eseq_inside, eseq_by, eseq_at}
 use Rattle.rml_grammar.proofs.Levels.{exp_level}
-use Rattle.rml_grammar.proofs.Fine.{Fine, fine-give, fine-refused, fine-then, fine-map, fine-skip, fine-front, fine-by, fine-signs, fine-separated, fine-enclosed, fine-enclosed-or-none, fine-inside, fine-long, sign-decides, fine-is}
+use Rattle.rml_grammar.proofs.Fine.{Fine, fine-give, fine-refused, fine-then, fine-map, fine-skip, fine-front, fine-by, fine-signs, fine-separated, fine-enclosed, fine-enclosed-or-none, fine-long, sign-decides, fine-is}
 
 abbrev pub InnerFine : Inner → Type 0
 InnerFine None = Unit {0}
@@ -32,7 +28,7 @@ inside-args None h = fine-refused _
 inside-args (Some p) h = fine-skip (enclosed_or_none mark.CloseRound p) (fine-enclosed-or-none mark.CloseRound p h)
 
 module _ (inner : Inner) (fine : InnerFine inner) where
-  eatom-fine : (f : Front) → Fine (λ us. eatom_by inner us f)
+  pub eatom-fine : (f : Front) → Fine (λ us. eatom_by inner us f)
   eatom-fine (front.Literal l) = fine-skip (λ us. Ok (exp.Lit l, us)) (fine-give (exp.Lit l))
   eatom-fine front.Square = fine-map (λ us. inside inner (enclosed_or_none mark.CloseSquare) us (rest_of us)) (λ xs. exp.List xs) (inside-list inner fine)
   eatom-fine front.Round = fine-map (λ us. inside inner (enclosed mark.CloseRound) us (rest_of us)) (λ xs. tuple_exp xs) (inside-enclosed inner fine)
@@ -45,7 +41,7 @@ module _ (inner : Inner) (fine : InnerFine inner) where
   argument-fine front.Round = fine-map (λ us. inside inner (enclosed mark.CloseRound) us (rest_of us)) (λ xs. Some xs) (inside-enclosed inner fine)
   argument-fine f = fine-give None
 
-  arguments-fine : Fine (eargument inner)
+  pub arguments-fine : Fine (eargument inner)
   arguments-fine = fine-front (eargument_by inner) argument-fine
 
   eapp-by-fine : (f : Front) → Fine (λ us. eapp_by inner us f)

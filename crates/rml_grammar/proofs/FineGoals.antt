@@ -1,18 +1,16 @@
 -- A goal is refused at a token whatever follows that token.
-use Rattle.std.proofs.Common.{◌≡◌, ℕ, zero, suc, List, [], ◌∷◌, refl, Option, Some, None, Result, Ok, Err}
-use Rattle.rml_syntax.specs.declared.token.Spot.{Spot}
+use Rattle.std.proofs.Common.{ℕ, zero, suc, List, [], refl, Some, None, Ok}
 use Rattle.rml_syntax.specs.declared.token.Mark.TheVariants as mark
 use Rattle.rml_syntax.specs.declared.rules.Long.{Long}
 use Rattle.rml_syntax.specs.declared.rules.Goal.{Goal}
 use Rattle.rml_syntax.specs.declared.rules.Goal.TheVariants as goal
 use Rattle.rml_grammar.specs.declared.front.Front.{Front}
 use Rattle.rml_grammar.specs.declared.front.Front.TheVariants as front
-use Rattle.rml_grammar.specs.declared.fault.Fault.{Fault}
-use Rattle.rml_grammar.specs.Tokens.{after, front_of, rest_of}
-use Rattle.rml_grammar.specs.Reading.{◌>>=◌, Parser, repeated, separated, before, inside, long_at}
+use Rattle.rml_grammar.specs.Tokens.{after, rest_of}
+use Rattle.rml_grammar.specs.Reading.{◌>>=◌, Parser, separated, before, inside, long_at}
 use Rattle.rml_grammar.specs.Patterns.{pat_at, pseq_at}
 use Rattle.rml_grammar.specs.Expressions.{exp_at, eargs_at}
-use Rattle.rml_grammar.specs.Goals.{Inner, call_results_by, call_results_at, long_goal_by, matching_at, gatom_by, gatom, goal_by, a_goal, goals_at, inner_goals}
+use Rattle.rml_grammar.specs.Goals.{Inner, call_results_by, call_results_at, long_goal_by, matching_at, gatom_by, gatom, goal_by, a_goal, goals_at}
 use Rattle.rml_grammar.proofs.Levels.{goals_level}
 use Rattle.rml_grammar.proofs.Fine.{Fine, fine-give, fine-refused, fine-then, fine-map, fine-skip, fine-front, fine-by, fine-separated, fine-before, fine-long, sign-decides, fine-is}
 use Rattle.rml_grammar.proofs.FineExpressions.{exp-fine, eargs-at-fine}
@@ -48,10 +46,10 @@ module _ (n : ℕ) (inner : Inner) (fine : InnerFine inner) where
   gatom-by-fine front.Round = fine-map (λ us. inside inner closed us (rest_of us)) (λ gs. goal.All gs) (inside-fine inner fine)
   gatom-by-fine f = fine-refused _
 
-  gatom-fine : Fine (gatom n inner)
+  pub gatom-fine : Fine (gatom n inner)
   gatom-fine = fine-front (gatom_by n inner) gatom-by-fine
 
-  goal-by-fine : (f : Front) → Fine (λ us. goal_by n inner us f)
+  pub goal-by-fine : (f : Front) → Fine (λ us. goal_by n inner us f)
   goal-by-fine front.Not = fine-skip (λ us. gatom n inner us >>= λ g. Ok (goal.Not g.0, g.1)) (fine-map (gatom n inner) (λ g. goal.Not g) gatom-fine)
   goal-by-fine front.Let = gatom-by-fine front.Let
   goal-by-fine front.Named = gatom-by-fine front.Named

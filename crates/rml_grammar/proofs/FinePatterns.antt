@@ -1,23 +1,22 @@
 -- A pattern is refused at a token whatever follows that token.
-use Rattle.std.proofs.Common.{◌≡◌, ℕ, zero, suc, ◌≤◌, ◌++◌, List, [], ◌∷◌, length, refl, arith, Option, Some, None, Result, Ok, Err}
+use Rattle.std.proofs.Common.{◌≡◌, ℕ, zero, suc, ◌++◌, List, [], ◌∷◌, length, refl, arith, Option, Some, None, Result, Ok}
 use Rattle.rml_syntax.specs.declared.token.Spot.{Spot}
 use Rattle.rml_base.specs.declared.place.Place.{Place}
 use Rattle.rml_syntax.specs.declared.token.Token.{Token}
 use Rattle.rml_syntax.specs.declared.token.Token.TheVariants as token
 use Rattle.rml_syntax.specs.declared.token.Key.TheVariants as key
 use Rattle.rml_syntax.specs.declared.token.Mark.TheVariants as mark
-use Rattle.rml_syntax.specs.declared.rules.Long.{Long}
 use Rattle.rml_syntax.specs.declared.rules.Pattern.{Pattern}
 use Rattle.rml_syntax.specs.declared.rules.Pattern.TheVariants as pat
 use Rattle.rml_grammar.specs.declared.front.Front.{Front}
 use Rattle.rml_grammar.specs.declared.front.Front.TheVariants as front
 use Rattle.rml_grammar.specs.declared.fault.Fault.{Fault}
-use Rattle.rml_grammar.specs.Tokens.{named, word, tyvar, literal, sign, dashes, after, after_word, front_of, rest_of}
-use Rattle.rml_grammar.specs.Reading.{◌>>=◌, Parser, repeated, separated, enclosed, enclosed_or_none, inside, long_at, name_at, qualified, short, within}
-use Rattle.rml_grammar.specs.Trees.{tuple_pat, chain_pat, applied_pat, results_pat, listed}
-use Rattle.rml_grammar.specs.Patterns.{Inner, patom_by, pargument_by, pargument, papp_by, papp, pcons, binder_at, bound_pat, pat_at, inner_pat, papp_at, papps_at, pargs_by, pargs_at, pseq_inside, pseq_by, pseq_at}
+use Rattle.rml_grammar.specs.Tokens.{named, word, tyvar, literal, sign, dashes, after, after_word, rest_of}
+use Rattle.rml_grammar.specs.Reading.{◌>>=◌, repeated, separated, enclosed, enclosed_or_none, inside, long_at, name_at, qualified}
+use Rattle.rml_grammar.specs.Trees.{tuple_pat, chain_pat, applied_pat, results_pat, listed, short, within}
+use Rattle.rml_grammar.specs.Patterns.{Inner, patom_by, pargument_by, pargument, papp_by, papp, pcons, bound_pat, pat_at, inner_pat, papp_at, papps_at, pargs_by, pargs_at, pseq_inside, pseq_by, pseq_at}
 use Rattle.rml_grammar.proofs.Levels.{pat_level}
-use Rattle.rml_grammar.proofs.Fine.{Fine, fine-give, fine-refused, fine-then, fine-map, fine-skip, fine-front, fine-by, fine-signs, fine-separated, fine-enclosed, fine-enclosed-or-none, fine-inside, fine-long, fine-name, sign-decides, word-decides, fine-is, Within, within-more, Keeps, late}
+use Rattle.rml_grammar.proofs.Fine.{Fine, fine-give, fine-refused, fine-then, fine-map, fine-skip, fine-front, fine-by, fine-signs, fine-separated, fine-enclosed, fine-enclosed-or-none, fine-long, fine-name, sign-decides, word-decides, fine-is, Within, within-more, Keeps, late}
 
 abbrev pub InnerFine : Inner → Type 0
 InnerFine None = Unit {0}
@@ -36,7 +35,7 @@ inside-args None h = fine-refused _
 inside-args (Some p) h = fine-skip (enclosed_or_none mark.CloseRound p) (fine-enclosed-or-none mark.CloseRound p h)
 
 module _ (inner : Inner) (fine : InnerFine inner) where
-  patom-fine : (f : Front) → Fine (λ us. patom_by inner us f)
+  pub patom-fine : (f : Front) → Fine (λ us. patom_by inner us f)
   patom-fine (front.Literal l) = fine-skip (λ us. Ok (pat.Lit l, us)) (fine-give (pat.Lit l))
   patom-fine front.Wild = fine-skip (λ us. Ok (pat.Any, us)) (fine-give pat.Any)
   patom-fine front.Square = fine-map (λ us. inside inner (enclosed_or_none mark.CloseSquare) us (rest_of us)) (λ xs. pat.List xs) (inside-list inner fine)
@@ -51,7 +50,7 @@ module _ (inner : Inner) (fine : InnerFine inner) where
   argument-fine front.Round = fine-map (λ us. inside inner (enclosed mark.CloseRound) us (rest_of us)) (λ xs. Some xs) (inside-enclosed inner fine)
   argument-fine f = fine-give None
 
-  arguments-fine : Fine (pargument inner)
+  pub arguments-fine : Fine (pargument inner)
   arguments-fine = fine-front (pargument_by inner) argument-fine
 
   papp-by-fine : (f : Front) → Fine (λ us. papp_by inner us f)
@@ -78,7 +77,7 @@ module _ (inner : Inner) (fine : InnerFine inner) where
   links-fine : Fine (repeated (after mark.TwoColons) (papp inner))
   links-fine = fine-signs mark.TwoColons (papp inner) papp-fine
 
-  pcons-after : (n : ℕ) (p : Place) → Fine (λ us. pcons inner (named n p ∷ us))
+  pub pcons-after : (n : ℕ) (p : Place) → Fine (λ us. pcons inner (named n p ∷ us))
   pcons-after n p = fine-map (λ us. papp inner (named n p ∷ us) >>= λ x. repeated (after mark.TwoColons) (papp inner) x.1 >>= λ xs. Ok (x.0 ∷ xs.0, xs.1)) (λ xs. chain_pat xs)
       (fine-then (λ us. papp inner (named n p ∷ us)) (λ x us. repeated (after mark.TwoColons) (papp inner) us >>= λ xs. Ok (x ∷ xs.0, xs.1)) (papp-after n p) (λ x. fine-map (repeated (after mark.TwoColons) (papp inner)) (λ xs. x ∷ xs) links-fine))
 

@@ -1,5 +1,5 @@
 -- A rule, a declaration and a text are refused at a token whatever follows that token.
-use Rattle.std.proofs.Common.{◌≡◌, ℕ, zero, suc, ◌<◌, ◌≤◌, ◌-◌, ◌++◌, List, [], ◌∷◌, length, refl, sym, ap, arith, inl, inr, Option, Some, None, Result, Ok, Err}
+use Rattle.std.proofs.Common.{◌≡◌, ℕ, zero, suc, ◌<◌, ◌-◌, ◌++◌, List, [], ◌∷◌, length, refl, arith, inl, inr, Some, None, Result, Ok, Err}
 use Rattle.std.proofs.Math.ListN.{length-append}
 use Rattle.rml_base.specs.declared.place.Place.{Place}
 use Rattle.rml_syntax.specs.declared.token.Spot.{Spot}
@@ -10,10 +10,7 @@ use Rattle.rml_syntax.specs.declared.token.Key.TheVariants as key
 use Rattle.rml_syntax.specs.declared.token.Mark.TheVariants as mark
 use Rattle.rml_syntax.specs.declared.rules.Goal.{Goal}
 use Rattle.rml_syntax.specs.declared.rules.Rule.{Rule}
-use Rattle.rml_syntax.specs.declared.texts.Uses.{Uses}
-use Rattle.rml_syntax.specs.declared.texts.Decl.{Decl}
 use Rattle.rml_syntax.specs.declared.texts.Decl.TheVariants as decl
-use Rattle.rml_syntax.specs.declared.texts.Text.{Text}
 use Rattle.rml_grammar.specs.declared.front.Front.{Front}
 use Rattle.rml_grammar.specs.declared.front.Front.TheVariants as front
 use Rattle.rml_grammar.specs.declared.front.Opening.{Opening}
@@ -21,19 +18,20 @@ use Rattle.rml_grammar.specs.declared.front.Opening.TheVariants as opening
 use Rattle.rml_grammar.specs.declared.fault.Fault.{Fault}
 use Rattle.rml_grammar.specs.declared.fault.ParseKind.TheVariants as kind
 use Rattle.rml_grammar.specs.Tokens.{after, after_word, front_of, opening_of, rest_of}
-use Rattle.rml_grammar.specs.Reading.{◌>>=◌, Parser, refused, unexpected, repeated, separated, before, name_at}
-use Rattle.rml_grammar.specs.Types.{tatom, tatom_at, product, type_at, sig_at, inner_bracket}
+use Rattle.rml_grammar.specs.Reading.{◌>>=◌, Parser, refused, repeated, separated, before, name_at}
+use Rattle.rml_grammar.specs.Types.{tatom_at, type_at, sig_at, inner_bracket}
 use Rattle.rml_grammar.specs.Patterns.{pargs_at}
 use Rattle.rml_grammar.specs.Expressions.{exp_at, eseq_at}
 use Rattle.rml_grammar.specs.Goals.{goals_at}
 use Rattle.rml_grammar.specs.Texts as g
+use Rattle.rml_grammar.specs.Trees.{Head, rule_of}
 use Rattle.rml_grammar.specs.SpelledTexts.{IsSpec, IsDecl}
 use Rattle.rml_grammar.proofs.Views.{opens}
-use Rattle.rml_grammar.proofs.Holds.{Holds, holds-map}
+use Rattle.rml_grammar.proofs.Holds.{holds-map}
 use Rattle.rml_grammar.proofs.ShortTexts.{shorter-spec, shorter-decl}
 use Rattle.rml_grammar.proofs.SoundTexts.{spec-sound, decl-sound, use-sound, use-turn}
-use Rattle.rml_grammar.proofs.Levels.{clauses_none, text_is}
-use Rattle.rml_grammar.proofs.Fine.{Fine, Choice, shut, here, Decides, Within, Keeps, fine-give, fine-refused, fine-then, fine-map, fine-skip, fine-front, fine-opening, fine-by, fine-signs, fine-words, fine-separated, fine-before, fine-name, fine-repeated-here, sign-decides, word-decides, fine-is}
+use Rattle.rml_grammar.proofs.Levels.{text_is}
+use Rattle.rml_grammar.proofs.Fine.{Fine, Choice, shut, here, Within, Keeps, fine-give, fine-refused, fine-then, fine-map, fine-skip, fine-front, fine-opening, fine-by, fine-words, fine-separated, fine-before, fine-name, fine-repeated-here, sign-decides, word-decides, fine-is}
 use Rattle.rml_grammar.proofs.FineTypes as t
 use Rattle.rml_grammar.proofs.FineExpressions.{exp-fine, eseq-at-fine}
 use Rattle.rml_grammar.proofs.FinePatterns.{pargs-at-fine}
@@ -53,7 +51,7 @@ tyvar-by-fine : (f : Front) → Fine (λ us. g.tyvar_by us f)
 tyvar-by-fine (front.TyVar v p) = fine-skip (λ us. Ok (v, us)) (fine-give v)
 tyvar-by-fine f = fine-refused _
 
-tyvar-fine : Fine g.tyvar_at
+pub tyvar-fine : Fine g.tyvar_at
 tyvar-fine = fine-front g.tyvar_by tyvar-by-fine
 
 tyvars-fine : Fine g.tyvars_at
@@ -69,7 +67,7 @@ thead-by-fine (front.TyVar v p) = fine-skip (g.thead_from (v ∷ [])) (from-fine
 thead-by-fine front.Round = fine-skip (λ us. g.tyvars_at us >>= λ vs. g.thead_from vs.0 vs.1) (fine-then g.tyvars_at g.thead_from tyvars-fine from-fine)
 thead-by-fine f = from-fine []
 
-thead-fine : Fine g.thead_at
+pub thead-fine : Fine g.thead_at
 thead-fine = fine-front g.thead_by thead-by-fine
 
 thead-equals : Fine (λ us. g.thead_at us >>= before (after mark.Equals))
@@ -105,7 +103,7 @@ spec-by-fine n opening.Val = fine-skip (g.val_spec_at n) (fine-then (λ us. name
 spec-by-fine n opening.Relation = fine-skip (g.relation_spec_at n) (fine-then (λ us. name_at us >>= before (after mark.Colon)) (λ x us. sig_at n us >>= λ y. Ok (decl.Relation x.0 x.1 (Some y.0) [], y.1)) name-colon (λ x. fine-map (sig_at n) (λ y. decl.Relation x.0 x.1 (Some y) []) (sig-fine n)))
 spec-by-fine n f = fine-refused _
 
-spec-fine : (n : ℕ) → Fine (g.spec_at n)
+pub spec-fine : (n : ℕ) → Fine (g.spec_at n)
 spec-fine n = fine-opening (g.spec_by n) (spec-by-fine n)
 
 -- rules
@@ -116,7 +114,7 @@ head-fine : (n : ℕ) → Fine (g.head_at n)
 head-fine n = fine-then name_at (λ h us. pargs_at n us >>= λ ps. g.rule_results_at n ps.1 >>= λ es. Ok ((h, ps.0, es.0), es.1)) fine-name
     (λ h. fine-then (pargs_at n) (λ ps us. g.rule_results_at n us >>= λ es. Ok ((h, ps, es.0), es.1)) (pargs-at-fine n) (λ ps. fine-map (g.rule_results_at n) (λ es. (h, ps, es)) (results-fine n)))
 
-dashes-by-fine : (gs : List Goal) (f : Front) → Fine (λ us. g.then_dashes gs us f)
+pub dashes-by-fine : (gs : List Goal) (f : Front) → Fine (λ us. g.then_dashes gs us f)
 dashes-by-fine gs front.Dashes = fine-skip (λ us. Ok (gs, us)) (fine-give gs)
 dashes-by-fine gs f = fine-refused _
 
@@ -127,7 +125,7 @@ premises-by-fine : (n : ℕ) (f : Front) → Fine (λ us. g.premises_by n us f)
 premises-by-fine n front.Dashes = fine-skip (λ us. Ok ([], us)) (fine-give [])
 premises-by-fine n f = some-premises n
 
-premises-fine : (n : ℕ) → Fine (g.premises_at n)
+pub premises-fine : (n : ℕ) → Fine (g.premises_at n)
 premises-fine n = fine-front (g.premises_by n) (premises-by-fine n)
 
 -- a reading that counts the tokens it took
@@ -157,17 +155,17 @@ counted-fine f p h = record {
 }
 
 -- an axiom, and a rule, as what was read and a count
-axiom-is : (p : Place) (us : List Spot) (r : Result (g.Head × List Spot) Fault) → (r >>= λ h. Ok (g.rule_of p [] h.0 (length us - length h.1), h.1)) ≡ counted (g.rule_of p []) us r
+axiom-is : (p : Place) (us : List Spot) (r : Result (Head × List Spot) Fault) → (r >>= λ h. Ok (rule_of p [] h.0 (length us - length h.1), h.1)) ≡ counted (rule_of p []) us r
 unfolding counted
 axiom-is p us (Ok h) = refl
 axiom-is p us (Err e) = refl
 
 axiom-fine : (n : ℕ) (p : Place) → Fine (λ us. g.clause_by n us (opening.Axiom p))
-axiom-fine n p = fine-is (λ us. g.clause_by n us (opening.Axiom p)) (λ us. counted (g.rule_of p []) us (g.head_at n (rest_of us))) (λ us. axiom-is p us (g.head_at n (rest_of us)))
-    (counted-fine (g.rule_of p []) (λ us. g.head_at n (rest_of us)) (fine-skip (g.head_at n) (head-fine n)))
+axiom-fine n p = fine-is (λ us. g.clause_by n us (opening.Axiom p)) (λ us. counted (rule_of p []) us (g.head_at n (rest_of us))) (λ us. axiom-is p us (g.head_at n (rest_of us)))
+    (counted-fine (rule_of p []) (λ us. g.head_at n (rest_of us)) (fine-skip (g.head_at n) (head-fine n)))
 
 abbrev Parts : Type 0
-Parts = List Goal × g.Head
+Parts = List Goal × Head
 
 parts_at : ℕ → Parser Parts
 parts_at n us = g.premises_at n us >>= λ gs. g.head_at n gs.1 >>= λ h. Ok ((gs.0, h.0), h.1)
@@ -177,14 +175,14 @@ unfolding parts_at
 parts-read n = fine-then (g.premises_at n) (λ gs us. g.head_at n us >>= λ h. Ok ((gs, h.0), h.1)) (premises-fine n) (λ gs. fine-map (g.head_at n) (λ h. (gs, h)) (head-fine n))
 
 abbrev rule_parts : Place → Parts → ℕ → Rule
-rule_parts p x n = g.rule_of p x.0 x.1 n
+rule_parts p x n = rule_of p x.0 x.1 n
 
-goals-is : (p : Place) (us : List Spot) (gs : List Goal) (r : Result (g.Head × List Spot) Fault) → (r >>= λ h. Ok (g.rule_of p gs h.0 (length us - length h.1), h.1)) ≡ counted (rule_parts p) us (r >>= λ h. Ok ((gs, h.0), h.1))
+goals-is : (p : Place) (us : List Spot) (gs : List Goal) (r : Result (Head × List Spot) Fault) → (r >>= λ h. Ok (rule_of p gs h.0 (length us - length h.1), h.1)) ≡ counted (rule_parts p) us (r >>= λ h. Ok ((gs, h.0), h.1))
 unfolding counted
 goals-is p us gs (Ok h) = refl
 goals-is p us gs (Err e) = refl
 
-rule-is : (n : ℕ) (p : Place) (us : List Spot) (r : Result (List Goal × List Spot) Fault) → (r >>= λ gs. g.head_at n gs.1 >>= λ h. Ok (g.rule_of p gs.0 h.0 (length us - length h.1), h.1)) ≡ counted (rule_parts p) us (r >>= λ gs. g.head_at n gs.1 >>= λ h. Ok ((gs.0, h.0), h.1))
+rule-is : (n : ℕ) (p : Place) (us : List Spot) (r : Result (List Goal × List Spot) Fault) → (r >>= λ gs. g.head_at n gs.1 >>= λ h. Ok (rule_of p gs.0 h.0 (length us - length h.1), h.1)) ≡ counted (rule_parts p) us (r >>= λ gs. g.head_at n gs.1 >>= λ h. Ok ((gs.0, h.0), h.1))
 unfolding counted
 rule-is n p us (Ok gs) = goals-is p us gs.0 (g.head_at n gs.1)
 rule-is n p us (Err e) = refl
@@ -199,7 +197,7 @@ clause-by-fine n (opening.Axiom p) = axiom-fine n p
 clause-by-fine n (opening.Rule p) = rule-fine n p
 clause-by-fine n f = fine-refused _
 
-clause-fine : (n : ℕ) → Fine (g.clause_at n)
+pub clause-fine : (n : ℕ) → Fine (g.clause_at n)
 clause-fine n = fine-opening (g.clause_by n) (clause-by-fine n)
 
 full-by : List Spot → Opening → Result (List Rule × List Spot) Fault
@@ -231,7 +229,7 @@ next-is : (n k : ℕ) (us : List Spot) → g.clauses_at n (suc k) us ≡ next-by
 unfolding next-by g.clauses_at
 next-is n k us = refl
 
-clauses-fine : (n k : ℕ) → Fine (g.clauses_at n k)
+pub clauses-fine : (n k : ℕ) → Fine (g.clauses_at n k)
 clauses-fine n zero = fine-is (g.clauses_at n zero) (λ us. full-by us (opening_of us)) (full-is n) (fine-opening full-by full-fine)
 clauses-fine n (suc k) = fine-is (g.clauses_at n (suc k)) (λ us. next-by n k us (opening_of us)) (next-is n k) (fine-opening (next-by n k) (next-fine n k (clauses-fine n k)))
 
@@ -263,11 +261,11 @@ decl-by-fine n k opening.Val = fine-skip (g.val_at n) (val-fine n)
 decl-by-fine n k opening.Relation = fine-skip (g.relation_at n k) (relation-fine n k)
 decl-by-fine n k f = fine-refused _
 
-decl-fine : (n k : ℕ) → Fine (g.decl_at n k)
+pub decl-fine : (n k : ℕ) → Fine (g.decl_at n k)
 decl-fine n k = fine-opening (g.decl_by n k) (decl-by-fine n k)
 
 -- repeated declarations
-spec-choice : (s : Spot) (f : Opening) → opening_of (s ∷ []) ≡ f → Choice g.spec_next s
+pub spec-choice : (s : Spot) (f : Opening) → opening_of (s ∷ []) ≡ f → Choice g.spec_next s
 spec-choice s opening.Datatype e = here (λ us. rw e refl)
 spec-choice s opening.Type e = here (λ us. rw e refl)
 spec-choice s opening.Abstype e = here (λ us. rw e refl)
@@ -275,14 +273,14 @@ spec-choice s opening.Val e = here (λ us. rw e refl)
 spec-choice s opening.Relation e = here (λ us. rw e refl)
 spec-choice s f e = shut (λ us. rw e refl)
 
-decl-choice : (s : Spot) (f : Opening) → opening_of (s ∷ []) ≡ f → Choice g.decl_next s
+pub decl-choice : (s : Spot) (f : Opening) → opening_of (s ∷ []) ≡ f → Choice g.decl_next s
 decl-choice s opening.Datatype e = here (λ us. rw e refl)
 decl-choice s opening.Type e = here (λ us. rw e refl)
 decl-choice s opening.Val e = here (λ us. rw e refl)
 decl-choice s opening.Relation e = here (λ us. rw e refl)
 decl-choice s f e = shut (λ us. rw e refl)
 
-uses-choice : (s : Spot) (f : Opening) → opening_of (s ∷ []) ≡ f → Choice g.uses_next s
+pub uses-choice : (s : Spot) (f : Opening) → opening_of (s ∷ []) ≡ f → Choice g.uses_next s
 uses-choice s (opening.With p) e = here (λ us. rw e refl)
 uses-choice s f e = shut (λ us. rw e refl)
 
@@ -332,10 +330,10 @@ file-keeps : (x : Spot) (tail other c : List Spot) → Keeps x tail other (g.fil
 file-keeps x tail other [] = file-in-first x.token x.place tail other
 file-keeps x tail other (y ∷ c) = file-in-keeps y.token y.place x tail other c
 
-file-fine : Fine g.file_at
+pub file-fine : Fine g.file_at
 file-fine = record { within = file-within; keeps = file-keeps }
 
-uses-by-fine : (f : Opening) → Fine (λ us. g.uses_by us f)
+pub uses-by-fine : (f : Opening) → Fine (λ us. g.uses_by us f)
 uses-by-fine (opening.With p) = fine-skip (λ us. g.file_at us >>= λ f. Ok (record { file = f.0; place = p }, f.1)) (fine-map g.file_at (λ f. record { file = f; place = p }) file-fine)
 uses-by-fine f = fine-refused _
 

@@ -1,24 +1,22 @@
 -- A type is refused at a token whatever follows that token.
-use Rattle.std.proofs.Common.{◌≡◌, ℕ, zero, suc, ◌<◌, List, [], ◌∷◌, length, refl, Option, Some, None, Result, Ok, Err}
+use Rattle.std.proofs.Common.{◌≡◌, ℕ, zero, suc, ◌<◌, List, [], ◌∷◌, length, refl, Some, None, Ok}
 use Rattle.rml_syntax.specs.declared.token.Spot.{Spot}
 use Rattle.rml_syntax.specs.declared.token.Mark.TheVariants as mark
 use Rattle.rml_syntax.specs.declared.rules.Long.{Long}
 use Rattle.rml_syntax.specs.declared.types.TypeExp.{TypeExp}
 use Rattle.rml_syntax.specs.declared.types.TypeExp.TheVariants as type
-use Rattle.rml_syntax.specs.declared.types.Sig.{Sig}
 use Rattle.rml_grammar.specs.declared.front.Front.{Front}
 use Rattle.rml_grammar.specs.declared.front.Front.TheVariants as front
 use Rattle.rml_grammar.specs.declared.types.Bracket.{Bracket}
 use Rattle.rml_grammar.specs.declared.types.Bracket.TheVariants as bracket
 use Rattle.rml_grammar.specs.declared.types.Types.{Types}
 use Rattle.rml_grammar.specs.declared.types.Types.TheVariants as types
-use Rattle.rml_grammar.specs.declared.fault.Fault.{Fault}
 use Rattle.rml_grammar.specs.Tokens.{after, front_of, rest_of}
 use Rattle.rml_grammar.specs.Reading.{◌>>=◌, Parser, repeated, separated, before, inside, long_at}
 use Rattle.rml_grammar.specs.Trees.{named_type, product_type}
-use Rattle.rml_grammar.specs.Types.{Inner, name_by, name_next, longs_at, bracket_type, tatom_by, tatom, product, one_from, tseq_from, tseq_inside, tseq_by, tseq, types_of, outputs, signature, bracket_from, bracket_by, in_bracket, bracket_at, inner_bracket, tatom_at, type_at, tseq_at, sig_at}
+use Rattle.rml_grammar.specs.Types.{Inner, name_next, longs_at, bracket_type, tatom_by, tatom, product, one_from, tseq_from, tseq_inside, tseq_by, tseq, types_of, outputs, signature, bracket_from, bracket_by, in_bracket, bracket_at, inner_bracket}
 use Rattle.rml_grammar.proofs.Levels.{bracket_level}
-use Rattle.rml_grammar.proofs.Holds.{Holds, holds-map, long-sound}
+use Rattle.rml_grammar.proofs.Holds.{holds-map, long-sound}
 use Rattle.rml_grammar.proofs.ShortTypes.{shorter-long}
 use Rattle.rml_grammar.proofs.Fine.{Fine, Choice, shut, here, Decides, fine-give, fine-refused, fine-then, fine-map, fine-skip, fine-front, fine-by, fine-signs, fine-separated, fine-before, fine-long, fine-repeated-here, sign-decides, fine-is}
 

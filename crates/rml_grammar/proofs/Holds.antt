@@ -1,5 +1,5 @@
 -- What holds of whatever a reading gives: readings joined, and repeated.
-use Rattle.std.proofs.Common.{◌≡◌, ℕ, zero, suc, ◌<◌, ◌≤◌, List, [], ◌∷◌, length, refl, sym, ap, subst, arith, Option, Some, None, Result, Ok, Err}
+use Rattle.std.proofs.Common.{◌≡◌, ℕ, zero, suc, ◌<◌, ◌≤◌, List, [], ◌∷◌, length, refl, ap, arith, Option, Some, None, Result, Ok, Err}
 use Rattle.rml_base.specs.declared.place.Place.{Place}
 use Rattle.rml_syntax.specs.declared.token.Spot.{Spot}
 use Rattle.rml_syntax.specs.declared.token.Token.{Token}
@@ -7,10 +7,9 @@ use Rattle.rml_syntax.specs.declared.token.Token.TheVariants as token
 use Rattle.rml_syntax.specs.declared.token.Mark.{Mark}
 use Rattle.rml_syntax.specs.declared.token.Mark.TheVariants as mark
 use Rattle.rml_syntax.specs.declared.token.Key.{Key}
-use Rattle.rml_syntax.specs.declared.rules.Long.{Long}
 use Rattle.rml_grammar.specs.declared.fault.Fault.{Fault}
 use Rattle.rml_grammar.specs.Tokens.{named, sign, word, after, after_word}
-use Rattle.rml_grammar.specs.Reading.{◌>>=◌, Parser, follows, repeated, separated, then_by, before, name_at, name_in, qualified, short, within, long_at}
+use Rattle.rml_grammar.specs.Reading.{◌>>=◌, Parser, follows, repeated, separated, before, name_at, name_in, qualified, long_at}
 use Rattle.rml_grammar.specs.SpelledNames.{IsLong, alone, dotted}
 use Rattle.rml_grammar.proofs.Views.{Has, has, there, lacking, same-sign, HasWord, has-word, said, unsaid, same-word}
 

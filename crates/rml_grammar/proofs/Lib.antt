@@ -26,6 +26,7 @@ pub mod FineTypes
 pub mod FineGoals
 pub mod FineTexts
 pub mod Places
+pub mod Cuts
 pub mod LimitsReading
 pub mod LimitsExpressions
 pub mod LimitsPatterns
@@ -51,4 +52,12 @@ pub mod DepthsTypes
 pub mod DepthsGoals
 pub mod DepthsTexts
 pub mod Lacks
+pub mod Goes
+pub mod GoesNames
+pub mod GoesTypes
+pub mod GoesExpressions
+pub mod GoesPatterns
+pub mod GoesGoals
+pub mod GoesTexts
+pub mod Beginnings
 pub mod Callers

@@ -9,11 +9,10 @@ use Rattle.rml_syntax.specs.declared.token.Key.{Key}
 use Rattle.rml_syntax.specs.declared.token.Mark.{Mark}
 use Rattle.rml_syntax.specs.declared.token.Mark.TheVariants as mark
 use Rattle.rml_grammar.specs.declared.fault.Fault.{Fault}
-use Rattle.rml_grammar.specs.declared.fault.ParseKind.{ParseKind}
 use Rattle.rml_grammar.specs.declared.fault.ParseKind.TheVariants as kind
 use Rattle.rml_grammar.specs.Laws.{IsLimit}
-use Rattle.rml_grammar.specs.Tokens.{sign, word, after, after_word}
-use Rattle.rml_grammar.specs.Reading.{◌>>=◌, Parser, refused, unexpected, follows, repeated, separated, before, enclosed, enclosed_or_none, inside, name_at, name_in, qualified, long_at}
+use Rattle.rml_grammar.specs.Tokens.{after, after_word}
+use Rattle.rml_grammar.specs.Reading.{◌>>=◌, Parser, follows, repeated, separated, before, enclosed, enclosed_or_none, inside, name_at, name_in, qualified, long_at}
 use Rattle.rml_grammar.proofs.Fine.{Within, Fine}
 use Rattle.rml_grammar.proofs.Views.{Has, has, there, lacking, same-sign, HasWord, has-word, said, unsaid, same-word}
 use Rattle.rml_grammar.proofs.Holds as holds

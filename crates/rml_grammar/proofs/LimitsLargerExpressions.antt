@@ -1,14 +1,14 @@
 -- Expressions read with larger limits.
-use Rattle.std.proofs.Common.{◌≡◌, ℕ, zero, suc, ◌<◌, List, [], ◌∷◌, length, refl, arith, Option, Some, None, Result, Ok, Err}
+use Rattle.std.proofs.Common.{◌≡◌, ℕ, zero, suc, ◌<◌, List, length, refl, arith, Option, Some, None, Ok}
 use Rattle.rml_syntax.specs.declared.token.Spot.{Spot}
 use Rattle.rml_syntax.specs.declared.token.Mark.TheVariants as mark
 use Rattle.rml_syntax.specs.declared.rules.Exp.{Exp}
 use Rattle.rml_grammar.specs.declared.front.Front.{Front}
 use Rattle.rml_grammar.specs.declared.front.Front.TheVariants as front
-use Rattle.rml_grammar.specs.Tokens.{sign, after, front_of}
-use Rattle.rml_grammar.specs.Reading.{◌>>=◌, Parser, enclosed, enclosed_or_none}
+use Rattle.rml_grammar.specs.Tokens.{sign, front_of}
+use Rattle.rml_grammar.specs.Reading.{Parser, enclosed, enclosed_or_none}
 use Rattle.rml_grammar.specs.Trees.{listed}
-use Rattle.rml_grammar.specs.Expressions.{Inner, eatom_by, eargument_by, eargument, eapp, chained_exp, exp_at, inner_exp, eapps_at, eapp_at, eargs_by, eargs_at, eseq_inside, eseq_by, eseq_at}
+use Rattle.rml_grammar.specs.Expressions.{Inner, eatom_by, eargument_by, eapp, chained_exp, exp_at, inner_exp, eapps_at, eapp_at, eargs_by, eargs_at, eseq_inside, eseq_by, eseq_at}
 use Rattle.rml_grammar.proofs.Levels.{exp_level}
 use Rattle.rml_grammar.proofs.Fine.{Within, Fine, bind-within, within-more, fine-enclosed, fine-enclosed-or-none}
 use Rattle.rml_grammar.proofs.FineExpressions.{exp-fine}

@@ -1,10 +1,10 @@
 -- Goals read with larger limits.
-use Rattle.std.proofs.Common.{◌≡◌, ℕ, zero, suc, ◌<◌, List, [], ◌∷◌, length, refl, arith, Option, Some, None, Result, Ok, Err}
+use Rattle.std.proofs.Common.{ℕ, zero, suc, ◌<◌, List, length, arith, Some, None}
 use Rattle.rml_syntax.specs.declared.token.Spot.{Spot}
 use Rattle.rml_syntax.specs.declared.token.Mark.TheVariants as mark
 use Rattle.rml_syntax.specs.declared.rules.Long.{Long}
 use Rattle.rml_syntax.specs.declared.rules.Goal.{Goal}
-use Rattle.rml_grammar.specs.Tokens.{sign, after, front_of}
+use Rattle.rml_grammar.specs.Tokens.{sign, after}
 use Rattle.rml_grammar.specs.Reading.{◌>>=◌, Parser, separated, before}
 use Rattle.rml_grammar.specs.Goals.{Inner, call_results_by, call_results_at, long_goal_by, matching_at, gatom, a_goal, goals_at}
 use Rattle.rml_grammar.proofs.Levels.{goals_level}

@@ -1,15 +1,15 @@
 -- Patterns read with larger limits.
-use Rattle.std.proofs.Common.{◌≡◌, ℕ, zero, suc, ◌<◌, List, [], ◌∷◌, length, refl, arith, Option, Some, None, Result, Ok, Err}
+use Rattle.std.proofs.Common.{◌≡◌, ℕ, zero, suc, ◌<◌, List, length, refl, arith, Option, Some, None, Ok}
 use Rattle.rml_syntax.specs.declared.token.Spot.{Spot}
 use Rattle.rml_syntax.specs.declared.token.Mark.TheVariants as mark
 use Rattle.rml_syntax.specs.declared.rules.Pattern.{Pattern}
 use Rattle.rml_grammar.proofs.Lacks.{binder-none}
 use Rattle.rml_grammar.specs.declared.front.Front.{Front}
 use Rattle.rml_grammar.specs.declared.front.Front.TheVariants as front
-use Rattle.rml_grammar.specs.Tokens.{sign, after, front_of}
-use Rattle.rml_grammar.specs.Reading.{◌>>=◌, Parser, enclosed, enclosed_or_none}
+use Rattle.rml_grammar.specs.Tokens.{sign, front_of}
+use Rattle.rml_grammar.specs.Reading.{Parser, enclosed, enclosed_or_none}
 use Rattle.rml_grammar.specs.Trees.{listed}
-use Rattle.rml_grammar.specs.Patterns.{Inner, patom_by, pargument_by, pargument, papp, pcons, bound_pat, pat_at, inner_pat, papps_at, papp_at, pargs_by, pargs_at, pseq_inside, pseq_by, pseq_at}
+use Rattle.rml_grammar.specs.Patterns.{Inner, patom_by, pargument_by, papp, pcons, bound_pat, pat_at, inner_pat, papps_at, papp_at, pargs_by, pargs_at, pseq_inside, pseq_by, pseq_at}
 use Rattle.rml_grammar.proofs.Levels.{pat_level}
 use Rattle.rml_grammar.proofs.Fine.{Within, Fine, bind-within, within-more, fine-enclosed, fine-enclosed-or-none}
 use Rattle.rml_grammar.proofs.FinePatterns.{pat-fine}

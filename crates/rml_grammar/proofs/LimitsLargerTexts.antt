@@ -1,5 +1,5 @@
 -- Rules, declarations and texts read with larger limits.
-use Rattle.std.proofs.Common.{◌≡◌, ℕ, zero, suc, ◌<◌, ◌≤◌, List, [], ◌∷◌, length, refl, sym, ap, subst, arith, Option, Some, None, Result, Ok, Err}
+use Rattle.std.proofs.Common.{◌≡◌, ℕ, zero, suc, ◌<◌, List, [], ◌∷◌, length, refl, sym, ap, subst, arith, Result, Ok, Err}
 use Rattle.rml_base.specs.declared.place.Place.{Place}
 use Rattle.rml_syntax.specs.declared.token.Spot.{Spot}
 use Rattle.rml_syntax.specs.declared.token.Token.{Token}
@@ -11,11 +11,10 @@ use Rattle.rml_syntax.specs.declared.texts.Text.{Text}
 use Rattle.rml_grammar.specs.declared.front.Front.{Front}
 use Rattle.rml_grammar.specs.declared.front.Front.TheVariants as front
 use Rattle.rml_grammar.specs.declared.fault.Fault.{Fault}
-use Rattle.rml_grammar.specs.declared.fault.ParseKind.{ParseKind}
 use Rattle.rml_grammar.specs.declared.fault.ParseKind.TheVariants as kind
 use Rattle.rml_grammar.specs.Laws.{IsLimit}
-use Rattle.rml_grammar.specs.Tokens.{word, after, after_word, front_of, opening_of}
-use Rattle.rml_grammar.specs.Reading.{◌>>=◌, Parser, repeated, separated, before}
+use Rattle.rml_grammar.specs.Tokens.{word, after, after_word, front_of}
+use Rattle.rml_grammar.specs.Reading.{◌>>=◌, Parser, repeated}
 use Rattle.rml_grammar.specs.Types.{tatom_at, type_at, sig_at}
 use Rattle.rml_grammar.specs.Texts as g
 use Rattle.rml_grammar.specs.Texts.{whole_text}
@@ -23,7 +22,7 @@ use Rattle.rml_grammar.proofs.Fine.{Within, bind-within, within-more}
 use Rattle.rml_grammar.proofs.Views as v
 use Rattle.rml_grammar.proofs.Views.{Begins, begins, Opens, opens, Has, has, HasWord, has-word}
 use Rattle.rml_grammar.proofs.LimitsTexts.{spec-stays, decl-stays, uses-stays, none-begins, no-more, one-more}
-use Rattle.rml_grammar.proofs.LimitsLarger.{Past, Steps, same, alike, passed, within-past, steps-within, and-steps, end-steps, unexpected-steps, skip, Climbs, sign-steps, word-steps, word-shorter, repeated-climbs, separated-climbs, signs-climb, name-climbs}
+use Rattle.rml_grammar.proofs.LimitsLarger.{Steps, same, alike, passed, within-past, steps-within, and-steps, end-steps, unexpected-steps, skip, Climbs, sign-steps, word-steps, word-shorter, repeated-climbs, separated-climbs, signs-climb, name-climbs}
 use Rattle.rml_grammar.proofs.LimitsLargerTypes.{tatom-at-climbs, type-climbs, sig-climbs}
 use Rattle.rml_grammar.proofs.LimitsLargerPatterns.{pargs-climbs}
 use Rattle.rml_grammar.proofs.LimitsLargerExpressions.{exp-climbs, eseq-climbs}

@@ -1,5 +1,5 @@
 -- Types and signatures read with larger limits.
-use Rattle.std.proofs.Common.{◌≡◌, ℕ, zero, suc, ◌<◌, ◌≤◌, List, [], ◌∷◌, length, refl, ap, arith, Option, Some, None, Result, Ok, Err}
+use Rattle.std.proofs.Common.{◌≡◌, ℕ, zero, suc, ◌<◌, List, [], ◌∷◌, length, refl, ap, arith, Some, None}
 use Rattle.rml_syntax.specs.declared.token.Spot.{Spot}
 use Rattle.rml_syntax.specs.declared.token.Mark.TheVariants as mark
 use Rattle.rml_syntax.specs.declared.rules.Long.{Long}
@@ -11,7 +11,7 @@ use Rattle.rml_grammar.specs.declared.types.Bracket.TheVariants as bracket
 use Rattle.rml_grammar.specs.declared.types.Types.{Types}
 use Rattle.rml_grammar.specs.declared.types.Types.TheVariants as types
 use Rattle.rml_grammar.specs.Tokens.{sign, after, front_of}
-use Rattle.rml_grammar.specs.Reading.{◌>>=◌, Parser, long_at}
+use Rattle.rml_grammar.specs.Reading.{Parser, long_at}
 use Rattle.rml_grammar.specs.Types.{Inner, name_next, longs_at, bracket_type, tatom, product, one_from, tseq_from, tseq_inside, tseq_by, tseq, outputs, signature, bracket_from, bracket_by, in_bracket, bracket_at, inner_bracket, tatom_at, type_at, sig_at}
 use Rattle.rml_grammar.proofs.Levels.{bracket_level}
 use Rattle.rml_grammar.proofs.Fine.{Within, Fine, bind-within, within-more}

@@ -18,6 +18,7 @@ use Rattle.rml_grammar.specs.Laws.{IsLimit, Agrees}
 use Rattle.rml_grammar.specs.Limits.{OpensBracket, BeginsRule, open_behind, rules_behind, open_after, rules_after, WithinLimits, IsAtLimit, StandsAt}
 use Rattle.rml_grammar.specs.SpelledTexts.{Derives}
 use Rattle.rml_grammar.specs.Texts.{whole_text}
+use Rattle.rml_grammar.proofs.Cuts.{one-cut}
 use Rattle.rml_grammar.proofs.Places.{complete, placed}
 use Rattle.rml_grammar.proofs.LimitsTexts.{fault-at}
 
@@ -35,7 +36,7 @@ no-limit-by n m us front rest kind.TooManyRules h e a i =
     let is : rules_after front ≡ m = a.4 in
     absurd (omega arith)
 
-no-limit : (n m : ℕ) (us : List Spot) (f : Fault) → WithinLimits n m us → StandsAt n m us f → IsLimit f.kind → ⊥
+pub no-limit : (n m : ℕ) (us : List Spot) (f : Fault) → WithinLimits n m us → StandsAt n m us f → IsLimit f.kind → ⊥
 no-limit n m us f h s i = no-limit-by n m us s.front s.rest f.kind h s.all s.limit i
 
 given : (n m : ℕ) (us : List Spot) (t : Text) (r : Result Text Fault) → WithinLimits n m us → ((f : Fault) → r ≡ Err f → StandsAt n m us f) → Agrees r t → r ≡ Ok t
@@ -44,18 +45,6 @@ given n m us t (Err f) h at a = absurd (no-limit n m us f h (at f refl) a)
 
 pub within-read : (end : Place) (n k : ℕ) (us : List Spot) (t : Text) → 0 < n → WithinLimits n (suc k) us → Derives end us t → whole_text end n k us ≡ Ok t
 within-read end n k us t l h d = given n (suc k) us t (whole_text end n k us) h (λ f e. fault-at end n k us f l e) (complete end n k us t d)
-
--- a list is cut in one way by how much is left
-cut-one : (a b u v : List Spot) → a ++ u ≡ b ++ v → length u ≡ length v → (a ≡ b) × (u ≡ v)
-cut-one [] [] u v e l = (refl, e)
-cut-one [] (y ∷ b) u v e l = absurd (omega (arith, simp length-append at (ap length e)))
-cut-one (x ∷ a) [] u v e l = absurd (omega (arith, simp length-append at (ap length e)))
-cut-one (x ∷ a) (y ∷ b) u v e l =
-    let h : a ++ u ≡ b ++ v = cc in
-    let k : x ≡ y = cc in
-    let r = cut-one a b u v h l in
-    let is : a ≡ b = r.0 in
-    (cc, r.1)
 
 -- no list that begins with the tokens up to a fault has a tree within the limits
 refused-by : (end at : Place) (n k left : ℕ) (front rest c tail other : List Spot) (x : Spot) (t : Text) (j : ParseKind) → front ≡ c → rest ≡ x ∷ tail → suc (length tail) ≡ left → whole_text end n k (c ++ x ∷ tail) ≡ Err (record { kind = j; left = left }) → IsAtLimit j n (suc k) front rest → Derives at (c ++ x ∷ other) t → WithinLimits n (suc k) (c ++ x ∷ other) → ⊥
@@ -75,7 +64,7 @@ pub refused : (end at : Place) (n k : ℕ) (c tail other : List Spot) (x : Spot)
 refused end at n k c tail other x f t l e left d h =
     let s = fault-at end n k (c ++ x ∷ tail) f l e in
     let lefts : length (x ∷ tail) ≡ length s.rest = sym left ∙ sym s.left in
-    let cut = cut-one c s.front (x ∷ tail) s.rest s.all lefts in
+    let cut = one-cut c (x ∷ tail) s.front s.rest s.all lefts in
     refused-by end at n k f.left s.front s.rest c tail other x t f.kind (sym cut.0) (sym cut.1) (sym left) e s.limit d h
 
 -- a token counts at most one

@@ -1,11 +1,11 @@
 -- A text that is refused at a token is refused there whatever follows that token.
-use Rattle.std.proofs.Common.{◌≡◌, ℕ, suc, ◌≤◌, List, [], ◌∷◌, ◌++◌, length, refl, sym, ap, arith, inl, inr, Result, Ok, Err}
+use Rattle.std.proofs.Common.{◌≡◌, ℕ, suc, ◌≤◌, List, [], ◌∷◌, ◌++◌, length, refl, ap, arith, inl, inr, Result, Ok, Err}
 use Rattle.rml_base.specs.declared.place.Place.{Place}
 use Rattle.rml_syntax.specs.declared.token.Spot.{Spot}
 use Rattle.rml_syntax.specs.declared.texts.Text.{Text}
 use Rattle.rml_grammar.specs.declared.fault.Fault.{Fault}
 use Rattle.rml_grammar.specs.declared.fault.ParseKind.TheVariants as kind
-use Rattle.rml_grammar.specs.Laws.{Agrees, IsUnexpected, Sound, Complete, Placed}
+use Rattle.rml_grammar.specs.Laws.{IsUnexpected, Sound, Complete, Placed}
 use Rattle.rml_grammar.specs.Reading.{◌>>=◌}
 use Rattle.rml_grammar.specs.SpelledTexts.{Derives, a_text}
 use Rattle.rml_grammar.specs.Texts.{text_at, whole_by, whole_text}

@@ -1,26 +1,24 @@
 -- The arguments of calls and the results of rules are read, and what is read are these.
-use Rattle.std.proofs.Common.{◌≡◌, ℕ, zero, suc, ◌≤◌, List, [], ◌∷◌, length, refl, sym, ap, subst, arith, ◌⊎◌, inl, inr, Option, Some, None, Result, Ok, Err, Bool, true, false}
+use Rattle.std.proofs.Common.{◌≡◌, ℕ, zero, suc, ◌≤◌, List, [], ◌∷◌, length, refl, ap, arith, ◌⊎◌, inl, inr, Option, Some, None, Ok, true, false}
 use Rattle.rml_base.specs.declared.place.Place.{Place}
 use Rattle.rml_syntax.specs.declared.token.Spot.{Spot}
-use Rattle.rml_syntax.specs.declared.token.Mark.{Mark}
 use Rattle.rml_syntax.specs.declared.token.Mark.TheVariants as mark
 use Rattle.rml_syntax.specs.declared.rules.Exp.{Exp}
 use Rattle.rml_syntax.specs.declared.rules.Exp.TheVariants as exp
 use Rattle.rml_grammar.specs.declared.front.Front.{Front}
 use Rattle.rml_grammar.specs.declared.front.Front.TheVariants as front
-use Rattle.rml_grammar.specs.declared.fault.Fault.{Fault}
-use Rattle.rml_grammar.specs.Tokens.{sign, after, front_of, rest_of}
-use Rattle.rml_grammar.specs.Reading.{◌>>=◌, Parser, follows, repeated, separated, enclosed, enclosed_or_none, before, inside}
-use Rattle.rml_grammar.specs.Trees.{tuple_exp, chain_exp, applied_exp, results_exp, listed}
-use Rattle.rml_grammar.specs.Expressions.{Inner, eargument_by, exp_at, inner_exp, eapp_at, eapps_at, eargument_at, eargs_by, eargs_at, eseq_inside, eseq_by, eseq_at}
+use Rattle.rml_grammar.specs.Tokens.{sign, after, front_of}
+use Rattle.rml_grammar.specs.Reading.{◌>>=◌, enclosed, enclosed_or_none, inside}
+use Rattle.rml_grammar.specs.Trees.{results_exp, listed}
+use Rattle.rml_grammar.specs.Expressions.{eargument_by, exp_at, inner_exp, eapps_at, eargument_at, eargs_by, eargs_at, eseq_inside, eseq_by, eseq_at}
 use Rattle.rml_grammar.specs.SpelledExpressions as s
 use Rattle.rml_grammar.specs.SpelledExpressions.{IsExp, IsEapps, IsEatom1, IsEargs1, IsExpTuple, IsExps, IsMoreExps, IsEargs, IsEseq, eargs_begin}
 use Rattle.rml_grammar.proofs.Views as v
 use Rattle.rml_grammar.proofs.Views.{Begins, begins, Has, has, same-sign}
-use Rattle.rml_grammar.proofs.Holds.{Holds, Reads, and-holds, holds-map}
+use Rattle.rml_grammar.proofs.Holds.{Reads, and-holds, holds-map}
 use Rattle.rml_grammar.specs.Laws.{Agrees}
 use Rattle.rml_grammar.proofs.Agree.{and-agrees, agrees-is, only-one, long-front}
-use Rattle.rml_grammar.proofs.ShortExpressions.{short-exp, short-eapp, short-eapps}
+use Rattle.rml_grammar.proofs.ShortExpressions.{short-eapp, short-eapps}
 use Rattle.rml_grammar.proofs.SoundExpressions.{InnerSound, IsArgument, present, absent, Closed, Empty, empty-inside, exp-sound, enclosed-sound, tails-sound, argument-sound}
 use Rattle.rml_grammar.proofs.CompleteExpressions.{exp-complete, exps-complete, begins-exp, enclosed-agrees, argument-complete, eapps-complete, or-none-none, begins-exps, not-round, none-by}
 

@@ -1,26 +1,24 @@
 -- The arguments of calls and the results of rules are read, and what is read are these.
-use Rattle.std.proofs.Common.{◌≡◌, ℕ, zero, suc, ◌≤◌, List, [], ◌∷◌, length, refl, sym, ap, subst, arith, ◌⊎◌, inl, inr, Option, Some, None, Result, Ok, Err, Bool, true, false}
+use Rattle.std.proofs.Common.{◌≡◌, ℕ, zero, suc, ◌≤◌, List, [], ◌∷◌, length, refl, ap, arith, ◌⊎◌, inl, inr, Option, Some, None, Ok, true, false}
 use Rattle.rml_base.specs.declared.place.Place.{Place}
 use Rattle.rml_syntax.specs.declared.token.Spot.{Spot}
-use Rattle.rml_syntax.specs.declared.token.Mark.{Mark}
 use Rattle.rml_syntax.specs.declared.token.Mark.TheVariants as mark
 use Rattle.rml_syntax.specs.declared.rules.Pattern.{Pattern}
 use Rattle.rml_syntax.specs.declared.rules.Pattern.TheVariants as pat
 use Rattle.rml_grammar.specs.declared.front.Front.{Front}
 use Rattle.rml_grammar.specs.declared.front.Front.TheVariants as front
-use Rattle.rml_grammar.specs.declared.fault.Fault.{Fault}
-use Rattle.rml_grammar.specs.Tokens.{sign, after, front_of, rest_of}
-use Rattle.rml_grammar.specs.Reading.{◌>>=◌, Parser, follows, repeated, separated, enclosed, enclosed_or_none, before, inside}
-use Rattle.rml_grammar.specs.Trees.{tuple_pat, chain_pat, applied_pat, results_pat, listed}
-use Rattle.rml_grammar.specs.Patterns.{Inner, pargument_by, pat_at, inner_pat, papp_at, papps_at, pargument_at, pargs_by, pargs_at, pseq_inside, pseq_by, pseq_at}
+use Rattle.rml_grammar.specs.Tokens.{sign, after, front_of}
+use Rattle.rml_grammar.specs.Reading.{◌>>=◌, enclosed, enclosed_or_none, inside}
+use Rattle.rml_grammar.specs.Trees.{results_pat, listed}
+use Rattle.rml_grammar.specs.Patterns.{pargument_by, pat_at, inner_pat, papps_at, pargument_at, pargs_by, pargs_at, pseq_inside, pseq_by, pseq_at}
 use Rattle.rml_grammar.specs.SpelledPatterns as s
 use Rattle.rml_grammar.specs.SpelledPatterns.{IsPat, IsPapps, IsPatom1, IsPargs1, IsPatTuple, IsPats, IsMorePats, IsPargs, IsPseq, pargs_begin}
 use Rattle.rml_grammar.proofs.Views as v
 use Rattle.rml_grammar.proofs.Views.{Begins, begins, Has, has, same-sign}
-use Rattle.rml_grammar.proofs.Holds.{Holds, Reads, and-holds, holds-map}
+use Rattle.rml_grammar.proofs.Holds.{Reads, and-holds, holds-map}
 use Rattle.rml_grammar.specs.Laws.{Agrees}
 use Rattle.rml_grammar.proofs.Agree.{and-agrees, agrees-is, only-one, long-front}
-use Rattle.rml_grammar.proofs.ShortPatterns.{short-pat, short-papp, short-papps}
+use Rattle.rml_grammar.proofs.ShortPatterns.{short-papp, short-papps}
 use Rattle.rml_grammar.proofs.SoundPatterns.{InnerSound, IsArgument, present, absent, Closed, Empty, empty-inside, pat-sound, enclosed-sound, tails-sound, argument-sound}
 use Rattle.rml_grammar.proofs.CompletePatterns.{pat-complete, pats-complete, begins-pat, enclosed-agrees, argument-complete, papps-complete, or-none-none, begins-pats, not-round, none-by}
 

@@ -1,5 +1,5 @@
 -- What a declaration or a rule takes from the front leaves less than there was.
-use Rattle.std.proofs.Common.{ℕ, ◌≤◌, ◌<◌, List, [], ◌∷◌, Option, length, arith}
+use Rattle.std.proofs.Common.{ℕ, ◌≤◌, ◌<◌, List, Option, length, arith}
 use Rattle.rml_syntax.specs.declared.token.Spot.{Spot}
 use Rattle.rml_syntax.specs.declared.rules.Exp.{Exp}
 use Rattle.rml_syntax.specs.declared.rules.Rule.{Rule}
@@ -9,9 +9,9 @@ use Rattle.rml_syntax.specs.declared.types.TypeHead.{TypeHead}
 use Rattle.rml_syntax.specs.declared.types.DataBind.{DataBind}
 use Rattle.rml_syntax.specs.declared.types.ConBind.{ConBind}
 use Rattle.rml_syntax.specs.declared.texts.Decl.{Decl}
-use Rattle.rml_grammar.specs.Texts.{Head}
 use Rattle.rml_grammar.specs.SpelledTexts as s
 use Rattle.rml_grammar.specs.SpelledTexts.{IsMoreTyvars, IsThead, IsCon, IsMoreCons, IsData, IsMoreDatas, IsDatas, IsAbbrev, IsSpec, IsRuleResults, IsHead, IsClause, IsMoreClauses, IsOptionalType, IsOptionalSig, IsDecl}
+use Rattle.rml_grammar.specs.Trees.{Head}
 use Rattle.rml_grammar.proofs.ShortTypes.{short-type, short-tatom, short-factors, short-sig}
 use Rattle.rml_grammar.proofs.ShortExpressions.{short-exp}
 use Rattle.rml_grammar.proofs.ShortGoals.{short-pargs, short-eseq, short-goals}

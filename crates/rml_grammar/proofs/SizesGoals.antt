@@ -1,11 +1,11 @@
 -- A goal has no more goals, patterns and expressions than tokens.
-use Rattle.std.proofs.Common.{◌≡◌, ℕ, ◌+◌, ◌≤◌, List, [], ◌∷◌, length, ap, ◌∙◌, arith, sum_by}
+use Rattle.std.proofs.Common.{◌≡◌, ℕ, ◌+◌, ◌≤◌, List, length, ap, ◌∙◌, arith, sum_by}
 use Rattle.std.proofs.lemmas.List.Sums.{sum-map, sum_by-cons}
 use Rattle.rml_syntax.specs.declared.token.Spot.{Spot}
 use Rattle.rml_syntax.specs.declared.rules.Pattern.{Pattern}
 use Rattle.rml_syntax.specs.declared.rules.Goal.{Goal}
 use Rattle.rml_syntax.specs.declared.rules.Goal.TheVariants as goal
-use Rattle.rml_grammar.specs.Sizes.{exp_size, goal_size, goal_size_at, pattern_size}
+use Rattle.rml_grammar.specs.Sizes.{goal_size, goal_size_at, pattern_size}
 use Rattle.rml_grammar.specs.SpelledGoals as s
 use Rattle.rml_grammar.specs.SpelledGoals.{IsCallResults, IsGoals, IsMoreGoals, IsGoal, IsGatom}
 use Rattle.rml_grammar.proofs.Folds.{goal-All, goal-Call, goal-Equal, goal-Let, goal-Not}

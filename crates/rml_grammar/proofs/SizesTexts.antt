@@ -1,5 +1,5 @@
 -- A rule has fewer parts than tokens, a constructor fewer than a text; and what declarations weigh is no more than their tokens.
-use Rattle.std.proofs.Common.{◌≡◌, ℕ, suc, ◌+◌, ◌-◌, ◌<◌, ◌≤◌, List, [], ◌∷◌, ◌++◌, length, Option, Some, None, refl, arith, sum_by}
+use Rattle.std.proofs.Common.{◌≡◌, ℕ, suc, ◌+◌, ◌<◌, ◌≤◌, List, [], ◌∷◌, length, refl, arith, sum_by}
 use Rattle.std.specs.Prelude.{All}
 use Rattle.std.specs.List.{flat_map}
 use Rattle.std.proofs.lemmas.List.Sums.{sum_by-append, sum_by-cons}
@@ -8,8 +8,6 @@ use Rattle.std.proofs.lemmas.List.Elements.{All-append, All-cons, All-nil}
 use Rattle.rml_base.specs.declared.place.Place.{Place}
 use Rattle.rml_syntax.specs.declared.token.Spot.{Spot}
 use Rattle.rml_syntax.specs.declared.rules.Exp.{Exp}
-use Rattle.rml_syntax.specs.declared.rules.Goal.{Goal}
-use Rattle.rml_syntax.specs.declared.rules.Pattern.{Pattern}
 use Rattle.rml_syntax.specs.declared.rules.Rule.{Rule}
 use Rattle.rml_syntax.specs.declared.types.TypeExp.{TypeExp}
 use Rattle.rml_syntax.specs.declared.types.ConBind.{ConBind}
@@ -17,14 +15,14 @@ use Rattle.rml_syntax.specs.declared.types.DataBind.{DataBind}
 use Rattle.rml_syntax.specs.declared.texts.Decl.{Decl}
 use Rattle.rml_syntax.specs.declared.texts.Text.{Text}
 use Rattle.rml_syntax.specs.declared.texts.Uses.{Uses}
-use Rattle.rml_grammar.specs.Texts.{Head}
-use Rattle.rml_grammar.specs.Sizes.{HasPartsBelow, IsSmallRule, constructors_in, declarations, exp_size, goal_size, pattern_size, rule_size, rules_in, weight}
+use Rattle.rml_grammar.specs.Sizes.{HasPartsBelow, IsSmallRule, constructors_in, declarations, exp_size, pattern_size, rules_in, weight}
 use Rattle.rml_grammar.specs.SpelledTypes.{IsFactors}
 use Rattle.rml_grammar.specs.SpelledTypes as t
 use Rattle.rml_grammar.specs.SpelledTexts as s
 use Rattle.rml_grammar.specs.SpelledTexts.{Derives, IsAbbrev, IsClause, IsCon, IsData, IsDatas, IsDecl, IsDecls, IsHead, IsMoreClauses, IsMoreCons, IsMoreDatas, IsRuleResults, IsSpec, IsSpecs, IsUses}
-use Rattle.rml_grammar.proofs.ShortTypes.{short-factors, short-sig, short-tatom, short-type}
-use Rattle.rml_grammar.proofs.ShortTexts.{short-more_cons, short-optional_sig, short-optional_type, shorter-clause, shorter-con, shorter-data, shorter-decl, shorter-spec, shorter-thead}
+use Rattle.rml_grammar.specs.Trees.{Head}
+use Rattle.rml_grammar.proofs.ShortTypes.{short-tatom}
+use Rattle.rml_grammar.proofs.ShortTexts.{short-optional_sig, short-optional_type, shorter-con, shorter-data, shorter-decl, shorter-spec, shorter-thead}
 use Rattle.rml_grammar.proofs.SizesExpressions.{eseq-size, exp-size}
 use Rattle.rml_grammar.proofs.SizesGoals.{goals-size}
 use Rattle.rml_grammar.proofs.SizesPatterns.{pargs-size}

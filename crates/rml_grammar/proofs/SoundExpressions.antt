@@ -1,5 +1,5 @@
 -- What is read as an expression is one.
-use Rattle.std.proofs.Common.{◌≡◌, ℕ, zero, suc, ◌≤◌, List, [], ◌∷◌, length, refl, sym, subst, ◌⊎◌, inl, inr, Option, Some, None, Result, Ok, Err, true, false}
+use Rattle.std.proofs.Common.{◌≡◌, ℕ, zero, suc, List, [], ◌∷◌, refl, subst, ◌⊎◌, inl, inr, Option, Some, None, Ok, false}
 use Rattle.rml_base.specs.declared.place.Place.{Place}
 use Rattle.rml_syntax.specs.declared.token.Spot.{Spot}
 use Rattle.rml_syntax.specs.declared.token.Mark.{Mark}
@@ -8,11 +8,10 @@ use Rattle.rml_syntax.specs.declared.rules.Long.{Long}
 use Rattle.rml_syntax.specs.declared.rules.Exp.{Exp}
 use Rattle.rml_syntax.specs.declared.rules.Exp.TheVariants as exp
 use Rattle.rml_grammar.specs.declared.front.Front.TheVariants as front
-use Rattle.rml_grammar.specs.declared.fault.Fault.{Fault}
-use Rattle.rml_grammar.specs.Tokens.{sign, after, front_of, rest_of}
-use Rattle.rml_grammar.specs.Reading.{◌>>=◌, Parser, repeated, separated, enclosed, enclosed_or_none, before, inside, long_at}
-use Rattle.rml_grammar.specs.Trees.{tuple_exp, chain_exp, applied_exp, results_exp, listed}
-use Rattle.rml_grammar.specs.Expressions.{Inner, eatom_by, eargument_by, eargument, eapp_by, eapp, chained_exp, exp_at, inner_exp, eapp_at, eapps_at, eatom_at, eargument_at, eargs_by, eargs_at, eseq_inside, eseq_by, eseq_at}
+use Rattle.rml_grammar.specs.Tokens.{sign, after, front_of}
+use Rattle.rml_grammar.specs.Reading.{Parser, repeated, separated, enclosed, enclosed_or_none, inside, long_at}
+use Rattle.rml_grammar.specs.Trees.{tuple_exp, chain_exp, applied_exp}
+use Rattle.rml_grammar.specs.Expressions.{Inner, eatom_by, eargument_by, eargument, eapp, chained_exp, exp_at}
 use Rattle.rml_grammar.specs.SpelledNames.{IsLong}
 use Rattle.rml_grammar.specs.SpelledExpressions as s
 use Rattle.rml_grammar.specs.SpelledExpressions.{IsExp, IsEapps, IsEapp, IsEargs1, IsEatom, IsExpTuple, IsEatom1, IsExps, IsMoreExps, IsEargs, IsEseq, eargs_begin}

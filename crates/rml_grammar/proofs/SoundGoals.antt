@@ -1,23 +1,16 @@
 -- What is read as a goal is one.
-use Rattle.std.proofs.Common.{◌≡◌, ℕ, zero, suc, ◌≤◌, List, [], ◌∷◌, length, refl, sym, subst, Option, Some, None, Result, Ok, Err}
+use Rattle.std.proofs.Common.{ℕ, zero, suc, List, ◌∷◌, subst, Some, None}
 use Rattle.rml_base.specs.declared.place.Place.{Place}
 use Rattle.rml_syntax.specs.declared.token.Spot.{Spot}
 use Rattle.rml_syntax.specs.declared.token.Key.TheVariants as key
-use Rattle.rml_syntax.specs.declared.token.Mark.{Mark}
 use Rattle.rml_syntax.specs.declared.token.Mark.TheVariants as mark
 use Rattle.rml_syntax.specs.declared.rules.Long.{Long}
-use Rattle.rml_syntax.specs.declared.rules.Exp.{Exp}
-use Rattle.rml_syntax.specs.declared.rules.Pattern.{Pattern}
 use Rattle.rml_syntax.specs.declared.rules.Goal.{Goal}
-use Rattle.rml_syntax.specs.declared.rules.Goal.TheVariants as goal
-use Rattle.rml_grammar.specs.declared.front.Front.{Front}
-use Rattle.rml_grammar.specs.declared.front.Front.TheVariants as front
-use Rattle.rml_grammar.specs.declared.fault.Fault.{Fault}
-use Rattle.rml_grammar.specs.Tokens.{word, sign, after, front_of, rest_of}
-use Rattle.rml_grammar.specs.Reading.{◌>>=◌, Parser, repeated, separated, before, inside, long_at}
+use Rattle.rml_grammar.specs.Tokens.{word, sign, after}
+use Rattle.rml_grammar.specs.Reading.{◌>>=◌, Parser, separated, before, inside, long_at}
 use Rattle.rml_grammar.specs.Patterns.{pat_at, pseq_at}
 use Rattle.rml_grammar.specs.Expressions.{exp_at, eargs_at}
-use Rattle.rml_grammar.specs.Goals.{Inner, call_results_by, call_results_at, long_goal_by, matching_at, gatom_by, gatom, goal_by, a_goal, goals_at, inner_goals, gatom_at, goal_at}
+use Rattle.rml_grammar.specs.Goals.{Inner, call_results_at, long_goal_by, matching_at, gatom, a_goal, goals_at}
 use Rattle.rml_grammar.specs.SpelledNames.{IsLong}
 use Rattle.rml_grammar.specs.SpelledExpressions.{IsExp, IsEargs}
 use Rattle.rml_grammar.specs.SpelledPatterns.{IsPat, IsPseq}
@@ -26,7 +19,7 @@ use Rattle.rml_grammar.specs.SpelledGoals.{IsCallResults, IsGoals, IsMoreGoals, 
 use Rattle.rml_grammar.proofs.Levels.{goals_level}
 use Rattle.rml_grammar.proofs.Views as v
 use Rattle.rml_grammar.proofs.Views.{Begins, begins, Has, has}
-use Rattle.rml_grammar.proofs.Holds.{Holds, Reads, and-holds, holds-map, sign-holds, long-sound, tail-sound, separated-sound}
+use Rattle.rml_grammar.proofs.Holds.{Holds, Reads, and-holds, holds-map, sign-holds, long-sound, separated-sound}
 use Rattle.rml_grammar.proofs.ShortGoals.{short-goal}
 use Rattle.rml_grammar.proofs.SoundExpressions.{exp-sound}
 use Rattle.rml_grammar.proofs.SoundPatterns.{pat-sound}

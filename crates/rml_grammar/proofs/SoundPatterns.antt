@@ -1,5 +1,5 @@
 -- What is read as a pattern is one.
-use Rattle.std.proofs.Common.{◌≡◌, ℕ, zero, suc, ◌≤◌, List, [], ◌∷◌, length, refl, sym, subst, ◌⊎◌, inl, inr, Option, Some, None, Result, Ok, Err, true, false}
+use Rattle.std.proofs.Common.{◌≡◌, ℕ, zero, suc, List, [], ◌∷◌, refl, subst, ◌⊎◌, inl, inr, Option, Some, None, Ok, false}
 use Rattle.rml_base.specs.declared.place.Place.{Place}
 use Rattle.rml_syntax.specs.declared.token.Spot.{Spot}
 use Rattle.rml_syntax.specs.declared.token.Mark.{Mark}
@@ -9,11 +9,10 @@ use Rattle.rml_syntax.specs.declared.rules.Pattern.{Pattern}
 use Rattle.rml_syntax.specs.declared.rules.Pattern.TheVariants as pat
 use Rattle.rml_grammar.proofs.Lacks.{binder-none}
 use Rattle.rml_grammar.specs.declared.front.Front.TheVariants as front
-use Rattle.rml_grammar.specs.declared.fault.Fault.{Fault}
-use Rattle.rml_grammar.specs.Tokens.{sign, after, front_of, rest_of}
-use Rattle.rml_grammar.specs.Reading.{◌>>=◌, Parser, repeated, separated, enclosed, enclosed_or_none, before, inside, long_at}
-use Rattle.rml_grammar.specs.Trees.{tuple_pat, chain_pat, applied_pat, results_pat, listed}
-use Rattle.rml_grammar.specs.Patterns.{Inner, patom_by, pargument_by, pargument, papp_by, papp, pcons, bound_pat, binder_at, binder_in, pat_at, inner_pat, papp_at, papps_at, patom_at, pargument_at, pargs_by, pargs_at, pseq_inside, pseq_by, pseq_at}
+use Rattle.rml_grammar.specs.Tokens.{sign, after, front_of}
+use Rattle.rml_grammar.specs.Reading.{Parser, repeated, separated, enclosed, enclosed_or_none, inside, long_at}
+use Rattle.rml_grammar.specs.Trees.{tuple_pat, chain_pat, applied_pat}
+use Rattle.rml_grammar.specs.Patterns.{Inner, patom_by, pargument_by, pargument, papp, pcons, bound_pat, binder_at, pat_at}
 use Rattle.rml_grammar.specs.SpelledNames.{IsLong}
 use Rattle.rml_grammar.specs.SpelledPatterns as s
 use Rattle.rml_grammar.specs.SpelledPatterns.{IsPat, IsPcons, IsPapps, IsPapp, IsPargs1, IsPatom, IsPatTuple, IsPatom1, IsPats, IsMorePats, IsPargs, IsPseq, pargs_begin}

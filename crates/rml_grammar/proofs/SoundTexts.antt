@@ -1,5 +1,5 @@
 -- What is read as a rule, a declaration or a text is one.
-use Rattle.std.proofs.Common.{◌≡◌, ℕ, zero, suc, ◌≤◌, ◌<◌, ◌-◌, List, [], ◌∷◌, length, refl, sym, ap, subst, arith, Option, Some, None, Result, Ok, Err}
+use Rattle.std.proofs.Common.{◌≡◌, ℕ, zero, suc, ◌<◌, ◌-◌, List, [], ◌∷◌, length, refl, ap, subst, arith, Option, Some, None, Result}
 use Rattle.rml_base.specs.declared.place.Place.{Place}
 use Rattle.rml_syntax.specs.declared.token.Spot.{Spot}
 use Rattle.rml_syntax.specs.declared.token.Token.{Token}
@@ -9,8 +9,6 @@ use Rattle.rml_syntax.specs.declared.token.Key.{Key}
 use Rattle.rml_syntax.specs.declared.token.Key.TheVariants as key
 use Rattle.rml_syntax.specs.declared.token.Mark.{Mark}
 use Rattle.rml_syntax.specs.declared.token.Mark.TheVariants as mark
-use Rattle.rml_syntax.specs.declared.rules.Exp.{Exp}
-use Rattle.rml_syntax.specs.declared.rules.Pattern.{Pattern}
 use Rattle.rml_syntax.specs.declared.rules.Goal.{Goal}
 use Rattle.rml_syntax.specs.declared.rules.Rule.{Rule}
 use Rattle.rml_syntax.specs.declared.types.TypeExp.{TypeExp}
@@ -28,14 +26,14 @@ use Rattle.rml_grammar.specs.declared.front.Front.TheVariants as front
 use Rattle.rml_grammar.specs.declared.front.Opening.{Opening}
 use Rattle.rml_grammar.specs.declared.front.Opening.TheVariants as opening
 use Rattle.rml_grammar.specs.declared.fault.Fault.{Fault}
-use Rattle.rml_grammar.specs.declared.fault.ParseKind.TheVariants as kind
-use Rattle.rml_grammar.specs.Tokens.{named, word, tyvar, literal, sign, dashes, after, after_word, front_of, opening_of, rest_of}
-use Rattle.rml_grammar.specs.Reading.{◌>>=◌, Parser, refused, unexpected, repeated, separated, before, name_at}
+use Rattle.rml_grammar.specs.Tokens.{named, word, tyvar, literal, sign, dashes, after, after_word, front_of, opening_of}
+use Rattle.rml_grammar.specs.Reading.{◌>>=◌, repeated, separated, before, name_at}
 use Rattle.rml_grammar.specs.Types.{tatom_at, type_at, sig_at, inner_bracket}
 use Rattle.rml_grammar.specs.Patterns.{pargs_at}
 use Rattle.rml_grammar.specs.Expressions.{exp_at, eseq_at}
 use Rattle.rml_grammar.specs.Goals.{goals_at}
 use Rattle.rml_grammar.specs.Texts as g
+use Rattle.rml_grammar.specs.Trees.{Head, rule_of}
 use Rattle.rml_grammar.specs.SpelledTypes as y
 use Rattle.rml_grammar.specs.SpelledTypes.{IsTatom, IsFactors, IsType, IsSig}
 use Rattle.rml_grammar.specs.SpelledPatterns.{IsPargs}
@@ -45,8 +43,8 @@ use Rattle.rml_grammar.specs.SpelledTexts as s
 use Rattle.rml_grammar.specs.SpelledTexts.{IsMoreTyvars, IsThead, IsCon, IsMoreCons, IsData, IsMoreDatas, IsDatas, IsAbbrev, IsSpec, IsRuleResults, IsHead, IsClause, IsMoreClauses, IsOptionalType, IsOptionalSig, IsDecl, IsUses, IsSpecs, IsDecls, Derives}
 use Rattle.rml_grammar.proofs.Views as v
 use Rattle.rml_grammar.proofs.Views.{Begins, begins, Opens, opens, Has, has, HasWord, has-word}
-use Rattle.rml_grammar.proofs.Holds.{Holds, Reads, and-holds, holds-map, sign-holds, word-holds, told, name-sound, tail-sound, separated-sound, repeated-sound}
-use Rattle.rml_grammar.proofs.ShortTexts.{shorter-con, shorter-data, shorter-spec, shorter-clause, shorter-decl}
+use Rattle.rml_grammar.proofs.Holds.{Holds, Reads, and-holds, holds-map, sign-holds, word-holds, told, name-sound, separated-sound, repeated-sound}
+use Rattle.rml_grammar.proofs.ShortTexts.{shorter-con, shorter-data, shorter-spec, shorter-decl}
 use Rattle.rml_grammar.proofs.ShortTypes.{short-tatom}
 use Rattle.rml_grammar.proofs.SoundTypes as t
 use Rattle.rml_grammar.proofs.SoundExpressions.{exp-sound}
@@ -253,7 +251,7 @@ premises-sound i us v.a_let = some-premises i us
 premises-sound i us v.a_not = some-premises i us
 premises-sound i us (v.another e) = rw (premises-is i us (front_of us) (λ h. cc)) (some-premises i us)
 
-rule-from : (p : Place) (us vs rest : List Spot) (gs : List Goal) (h : g.Head) → IsPremises us gs vs → IsHead vs h rest → IsClause (word key.KRule p ∷ us) (g.rule_of p gs h (length (word key.KRule p ∷ us) - length rest)) rest
+rule-from : (p : Place) (us vs rest : List Spot) (gs : List Goal) (h : Head) → IsPremises us gs vs → IsHead vs h rest → IsClause (word key.KRule p ∷ us) (rule_of p gs h (length (word key.KRule p ∷ us) - length rest)) rest
 rule-from p us vs rest _ h no_premises a = s.rule_head a
 rule-from p us vs rest gs h (premises b) a = s.rule_goals b a
 

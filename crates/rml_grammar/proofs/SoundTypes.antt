@@ -1,12 +1,10 @@
 -- What is read as a type or a signature is one.
-use Rattle.std.proofs.Common.{◌≡◌, ℕ, zero, suc, ◌≤◌, ◌<◌, List, [], ◌∷◌, length, refl, sym, ap, subst, arith, ◌⊎◌, inl, inr, Option, Some, None, Result, Ok, Err}
+use Rattle.std.proofs.Common.{◌≡◌, ℕ, zero, suc, ◌<◌, List, [], ◌∷◌, length, refl, subst, Some, None, Ok}
 use Rattle.rml_base.specs.declared.place.Place.{Place}
 use Rattle.rml_syntax.specs.declared.token.Spot.{Spot}
-use Rattle.rml_syntax.specs.declared.token.Mark.{Mark}
 use Rattle.rml_syntax.specs.declared.token.Mark.TheVariants as mark
 use Rattle.rml_syntax.specs.declared.rules.Long.{Long}
 use Rattle.rml_syntax.specs.declared.types.TypeExp.{TypeExp}
-use Rattle.rml_syntax.specs.declared.types.TypeExp.TheVariants as type
 use Rattle.rml_syntax.specs.declared.types.Sig.{Sig}
 use Rattle.rml_grammar.proofs.Lacks.{name-lacks}
 use Rattle.rml_grammar.specs.declared.front.Front.{Front}
@@ -15,19 +13,18 @@ use Rattle.rml_grammar.specs.declared.types.Bracket.{Bracket}
 use Rattle.rml_grammar.specs.declared.types.Bracket.TheVariants as bracket
 use Rattle.rml_grammar.specs.declared.types.Types.{Types}
 use Rattle.rml_grammar.specs.declared.types.Types.TheVariants as types
-use Rattle.rml_grammar.specs.declared.fault.Fault.{Fault}
-use Rattle.rml_grammar.specs.Tokens.{tyvar, sign, after, front_of, rest_of}
+use Rattle.rml_grammar.specs.Tokens.{sign, after, front_of}
 use Rattle.rml_grammar.specs.Lacks.{LacksName}
 use Rattle.rml_grammar.specs.Reading.{◌>>=◌, Parser, repeated, separated, before, inside, long_at}
-use Rattle.rml_grammar.specs.Trees.{named_type, product_type}
-use Rattle.rml_grammar.specs.Types.{Inner, name_by, name_next, longs_at, bracket_type, tatom_by, tatom, product, one_from, tseq_from, tseq_inside, tseq_by, tseq, types_of, outputs, signature, bracket_from, bracket_by, in_bracket, bracket_at, inner_bracket, tatom_at, type_at, tseq_at, sig_at}
+use Rattle.rml_grammar.specs.Trees.{product_type}
+use Rattle.rml_grammar.specs.Types.{Inner, name_by, name_next, longs_at, bracket_type, tatom, product, one_from, tseq_from, tseq_inside, tseq_by, tseq, types_of, outputs, signature, bracket_from, bracket_by, in_bracket, bracket_at, inner_bracket}
 use Rattle.rml_grammar.specs.SpelledNames.{IsLong}
 use Rattle.rml_grammar.specs.SpelledTypes as s
 use Rattle.rml_grammar.specs.SpelledTypes.{IsLongs, IsSig, IsTseq, IsTypeTuple, IsMoreTypes, IsType, IsFactors, IsTatom, IsTbase}
 use Rattle.rml_grammar.proofs.Levels.{bracket_level}
 use Rattle.rml_grammar.proofs.Views as v
 use Rattle.rml_grammar.proofs.Views.{Begins, begins, Has, has, same-sign}
-use Rattle.rml_grammar.proofs.Holds.{Holds, Reads, and-holds, holds-map, sign-holds, long-sound, repeated-sound, tail-sound, separated-sound}
+use Rattle.rml_grammar.proofs.Holds.{Reads, and-holds, holds-map, sign-holds, long-sound, repeated-sound, tail-sound, separated-sound}
 use Rattle.rml_grammar.proofs.ShortTypes.{shorter-long, short-type, short-tatom}
 
 -- names

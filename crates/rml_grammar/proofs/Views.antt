@@ -1,5 +1,5 @@
 -- What a list of tokens begins with, as cases.
-use Rattle.std.proofs.Common.{◌≡◌, ℕ, List, [], ◌∷◌, refl, sym, subst, Option, Some, None, Bool, true, false}
+use Rattle.std.proofs.Common.{◌≡◌, ℕ, List, [], ◌∷◌, refl, sym, subst, Some, None, Bool, true, false}
 use Rattle.std.specs.Prelude.{if◌then◌else◌}
 use denote.Enum.Bare.{sameb, same_true}
 use Rattle.rml_base.specs.declared.place.Place.{Place}
@@ -13,11 +13,9 @@ use Rattle.rml_syntax.specs.declared.token.Mark.{Mark}
 use Rattle.rml_syntax.specs.declared.token.Mark.TheVariants as mark
 use Rattle.rml_syntax.specs.contracts.token.Mark as marks
 use Rattle.rml_syntax.specs.contracts.token.Key as keys
-use Rattle.rml_grammar.specs.declared.front.Front.{Front}
 use Rattle.rml_grammar.specs.declared.front.Front.TheVariants as front
-use Rattle.rml_grammar.specs.declared.front.Opening.{Opening}
 use Rattle.rml_grammar.specs.declared.front.Opening.TheVariants as opening
-use Rattle.rml_grammar.specs.Tokens.{word, named, tyvar, literal, sign, dashes, after, after_word, front_of, front_in, opening_of, opening_in}
+use Rattle.rml_grammar.specs.Tokens.{word, named, tyvar, literal, sign, dashes, after, after_word, front_of, opening_of}
 use Rattle.rml_grammar.specs.Lacks.{LacksBinder}
 
 -- by what stands first, where one token decides

@@ -1,5 +1,5 @@
 -- How deep trees are: how many nodes stand in one another, a leaf being one deep.
-use Rattle.std.specs.Prelude.{ℕ, ◌+◌, List, [], ◌∷◌, Option, Some, None, fold, map, max}
+use Rattle.std.specs.Prelude.{ℕ, ◌+◌, List, Option, Some, None, fold, map, max}
 use Rattle.rml_syntax.specs.declared.rules.Pattern.{Pattern, fold-Pattern}
 use Rattle.rml_syntax.specs.declared.rules.Pattern.TheOpen.{Pattern-F}
 use Rattle.rml_syntax.specs.declared.rules.Exp.{Exp, fold-Exp}

@@ -17,3 +17,4 @@ pub mod Sizes
 pub mod Depths
 pub mod Laws
 pub mod Limits
+pub mod Beginnings

@@ -1,5 +1,5 @@
 -- Reading from the front of a list of tokens: how the grammar of functions is put together.
-use Rattle.std.specs.Prelude.{◌≡◌, ℕ, zero, suc, List, [], ◌∷◌, length, Option, Some, None, Result, Ok, Err}
+use Rattle.std.specs.Prelude.{ℕ, zero, suc, List, [], ◌∷◌, length, Option, Some, None, Result, Ok, Err}
 use Rattle.rml_base.specs.declared.place.Place.{Place}
 use Rattle.rml_syntax.specs.declared.token.Spot.{Spot}
 use Rattle.rml_syntax.specs.declared.token.Token.{Token}
@@ -11,6 +11,7 @@ use Rattle.rml_grammar.specs.declared.fault.Fault.{Fault}
 use Rattle.rml_grammar.specs.declared.fault.ParseKind.{ParseKind}
 use Rattle.rml_grammar.specs.declared.fault.ParseKind.TheVariants as kind
 use Rattle.rml_grammar.specs.Tokens.{after}
+use Rattle.rml_grammar.specs.Trees.{short, within}
 
 infixl 10 ◌>>=◌
 abbrev pub ◌>>=◌ : {A B : Type 0} → Result A Fault → (A → Result B Fault) → Result B Fault
@@ -75,12 +76,6 @@ name_in whole _ p us = unexpected whole
 abbrev pub name_at : Parser (ℕ × Place)
 name_at [] = unexpected []
 name_at (s ∷ us) = name_in (s ∷ us) s.token s.place us
-
-abbrev pub short : ℕ × Place → Long
-short n = record { «module» = None; name = n.0; place = n.1 }
-
-abbrev pub within : ℕ × Place → ℕ → Long
-within m n = record { «module» = Some m.0; name = n; place = m.1 }
 
 -- name [`.` name]
 abbrev pub qualified : ℕ × Place → List Spot → Option (List Spot) → Result (Long × List Spot) Fault

@@ -1,5 +1,5 @@
 -- How large trees are: how many patterns, expressions and goals stand in them, and how many tokens their rules have.
-use Rattle.std.specs.Prelude.{ℕ, ◌+◌, ◌<◌, List, [], ◌∷◌, ◌++◌, Option, Some, None, length, sum, sum_by}
+use Rattle.std.specs.Prelude.{ℕ, ◌+◌, ◌<◌, List, [], ◌∷◌, ◌++◌, Some, length, sum, sum_by}
 use Rattle.std.specs.List.{flat_map}
 use Rattle.rml_syntax.specs.declared.rules.Pattern.{Pattern, fold-Pattern}
 use Rattle.rml_syntax.specs.declared.rules.Pattern.TheOpen.{Pattern-F}

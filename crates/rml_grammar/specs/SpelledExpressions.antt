@@ -1,6 +1,6 @@
 -- What is an expression: a case for each production, between the front of a list of tokens, the tree and the tokens
 -- that follow. What may be repeated or left out goes as far as it can.
-use Rattle.std.specs.Prelude.{◌≡◌, ℕ, Bool, true, false, List, [], ◌∷◌, Option, Some, None}
+use Rattle.std.specs.Prelude.{◌≡◌, Bool, true, false, List, [], ◌∷◌}
 use Rattle.rml_base.specs.declared.place.Place.{Place}
 use Rattle.rml_syntax.specs.declared.token.Spot.{Spot}
 use Rattle.rml_syntax.specs.declared.token.Lit.{Lit}
@@ -10,7 +10,7 @@ use Rattle.rml_syntax.specs.declared.rules.Exp.{Exp}
 use Rattle.rml_syntax.specs.declared.rules.Exp.TheVariants as exp
 use Rattle.rml_grammar.specs.declared.front.Front.{Front}
 use Rattle.rml_grammar.specs.declared.front.Front.TheVariants as front
-use Rattle.rml_grammar.specs.Tokens.{named, literal, sign, Lacks, front_of}
+use Rattle.rml_grammar.specs.Tokens.{literal, sign, Lacks, front_of}
 use Rattle.rml_grammar.specs.SpelledNames.{IsLong}
 use Rattle.rml_grammar.specs.Trees.{chain_exp}
 

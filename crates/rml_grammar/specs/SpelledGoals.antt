@@ -1,6 +1,6 @@
 -- What is a goal: a case for each production, between the front of a list of tokens, the tree and the tokens that
 -- follow. What may be repeated or left out goes as far as it can.
-use Rattle.std.specs.Prelude.{◌≡◌, ℕ, List, [], ◌∷◌, Option, Some, None}
+use Rattle.std.specs.Prelude.{List, [], ◌∷◌}
 use Rattle.rml_base.specs.declared.place.Place.{Place}
 use Rattle.rml_syntax.specs.declared.token.Spot.{Spot}
 use Rattle.rml_syntax.specs.declared.token.Key.TheVariants as key

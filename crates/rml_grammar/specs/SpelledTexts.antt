@@ -21,11 +21,11 @@ use Rattle.rml_syntax.specs.declared.texts.Decl.TheVariants as decl
 use Rattle.rml_syntax.specs.declared.texts.Text.{Text}
 use Rattle.rml_grammar.specs.Tokens.{word, named, tyvar, literal, sign, dashes, Lacks, LacksWord}
 use Rattle.rml_grammar.specs.Lacks.{LacksClause, LacksDecl, LacksSpec, LacksUses}
-use Rattle.rml_grammar.specs.Texts.{Head, rule_of}
 use Rattle.rml_grammar.specs.SpelledTypes.{IsTatom, IsFactors, IsType, IsSig}
 use Rattle.rml_grammar.specs.SpelledPatterns.{IsPargs}
 use Rattle.rml_grammar.specs.SpelledExpressions.{IsExp, IsEseq}
 use Rattle.rml_grammar.specs.SpelledGoals.{IsGoals}
+use Rattle.rml_grammar.specs.Trees.{Head, rule_of}
 
 -- {`,` tyvar}
 pub data IsMoreTyvars : List Spot → List ℕ → List Spot → Type 0 where

@@ -1,19 +1,16 @@
 -- How rules, declarations and texts are read.
-use Rattle.std.specs.Prelude.{◌≡◌, ℕ, zero, suc, ◌+◌, ◌-◌, List, [], ◌∷◌, length, Option, Some, None, Result, Ok, Err}
+use Rattle.std.specs.Prelude.{ℕ, zero, suc, ◌-◌, List, [], ◌∷◌, length, Option, Some, None, Result, Ok}
 use Rattle.rml_base.specs.declared.place.Place.{Place}
 use Rattle.rml_syntax.specs.declared.token.Spot.{Spot}
 use Rattle.rml_syntax.specs.declared.token.Token.{Token}
 use Rattle.rml_syntax.specs.declared.token.Token.TheVariants as token
-use Rattle.rml_syntax.specs.declared.token.Lit.{Lit}
 use Rattle.rml_syntax.specs.declared.token.Lit.TheVariants as lit
 use Rattle.rml_syntax.specs.declared.token.Key.TheVariants as key
 use Rattle.rml_syntax.specs.declared.token.Mark.TheVariants as mark
 use Rattle.rml_syntax.specs.declared.rules.Exp.{Exp}
-use Rattle.rml_syntax.specs.declared.rules.Pattern.{Pattern}
 use Rattle.rml_syntax.specs.declared.rules.Goal.{Goal}
 use Rattle.rml_syntax.specs.declared.rules.Rule.{Rule}
 use Rattle.rml_syntax.specs.declared.types.TypeExp.{TypeExp}
-use Rattle.rml_syntax.specs.declared.types.Sig.{Sig}
 use Rattle.rml_syntax.specs.declared.types.TypeHead.{TypeHead}
 use Rattle.rml_syntax.specs.declared.types.DataBind.{DataBind}
 use Rattle.rml_syntax.specs.declared.types.ConBind.{ConBind}
@@ -28,6 +25,7 @@ use Rattle.rml_grammar.specs.declared.front.Opening.TheVariants as opening
 use Rattle.rml_grammar.specs.declared.fault.Fault.{Fault}
 use Rattle.rml_grammar.specs.declared.fault.ParseKind.TheVariants as kind
 use Rattle.rml_grammar.specs.Tokens.{after, after_word, front_of, opening_of, rest_of}
+use Rattle.rml_grammar.specs.Trees.{Head, rule_of}
 use Rattle.rml_grammar.specs.Reading.{◌>>=◌, Parser, refused, unexpected, repeated, separated, before, name_at}
 use Rattle.rml_grammar.specs.Types.{tatom_at, type_at, sig_at}
 use Rattle.rml_grammar.specs.Patterns.{pargs_at}
@@ -101,10 +99,6 @@ spec_by n us _ = unexpected us
 abbrev pub spec_at : ℕ → Parser Decl
 spec_at n us = spec_by n us (opening_of us)
 
--- head: the name and its place, the patterns and the results
-abbrev pub Head : Type 0
-Head = (ℕ × Place) × List Pattern × List Exp
-
 -- [`=>` eseq]
 abbrev pub rule_results_by : ℕ → List Spot → Option (List Spot) → Result (List Exp × List Spot) Fault
 rule_results_by n us None = Ok ([], us)
@@ -128,10 +122,6 @@ premises_by n us f = goals_at n us >>= λ gs. then_dashes gs.0 gs.1 (front_of gs
 
 abbrev pub premises_at : ℕ → Parser (List Goal)
 premises_at n us = premises_by n us (front_of us)
-
--- the rule of these parts, which took so many tokens
-abbrev pub rule_of : Place → List Goal → Head → ℕ → Rule
-rule_of p gs h n = record { place = p; head = h.0.0; head_place = h.0.1; inputs = h.1; goals = gs; results = h.2; tokens = n }
 
 -- clause
 abbrev pub clause_by : ℕ → List Spot → Opening → Result (Rule × List Spot) Fault

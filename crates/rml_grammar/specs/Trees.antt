@@ -1,12 +1,22 @@
 -- Trees as the grammar makes them.
 use Rattle.std.specs.Prelude.{ℕ, List, [], ◌∷◌, Option, Some, None}
+use Rattle.rml_base.specs.declared.place.Place.{Place}
 use Rattle.rml_syntax.specs.declared.rules.Long.{Long}
 use Rattle.rml_syntax.specs.declared.rules.Exp.{Exp}
 use Rattle.rml_syntax.specs.declared.rules.Exp.TheVariants as exp
 use Rattle.rml_syntax.specs.declared.rules.Pattern.{Pattern}
 use Rattle.rml_syntax.specs.declared.rules.Pattern.TheVariants as pat
+use Rattle.rml_syntax.specs.declared.rules.Goal.{Goal}
+use Rattle.rml_syntax.specs.declared.rules.Rule.{Rule}
 use Rattle.rml_syntax.specs.declared.types.TypeExp.{TypeExp}
 use Rattle.rml_syntax.specs.declared.types.TypeExp.TheVariants as type
+
+-- a name alone, and one with the name of a module before it
+abbrev pub short : ℕ × Place → Long
+short n = record { «module» = None; name = n.0; place = n.1 }
+
+abbrev pub within : ℕ × Place → ℕ → Long
+within m n = record { «module» = Some m.0; name = n; place = m.1 }
 
 -- a name with its arguments, or without
 abbrev pub applied_exp : Long → Option (List Exp) → Exp
@@ -67,3 +77,11 @@ abbrev pub product_type : List TypeExp → TypeExp
 product_type [] = type.Tuple []
 product_type (x ∷ []) = x
 product_type (x ∷ y ∷ xs) = type.Tuple (x ∷ y ∷ xs)
+
+-- the head of a rule: the name and its place, the patterns and the results
+abbrev pub Head : Type 0
+Head = (ℕ × Place) × List Pattern × List Exp
+
+-- the rule of these parts, which took so many tokens
+abbrev pub rule_of : Place → List Goal → Head → ℕ → Rule
+rule_of p gs h n = record { place = p; head = h.0.0; head_place = h.0.1; inputs = h.1; goals = gs; results = h.2; tokens = n }

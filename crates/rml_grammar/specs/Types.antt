@@ -1,7 +1,6 @@
 -- How types and signatures are read. Inside a round bracket a signature, one type and more types begin alike, so one
 -- reading serves all, and answers what it found.
-use Rattle.std.specs.Prelude.{◌≡◌, ℕ, zero, suc, List, [], ◌∷◌, Option, Some, None, Result, Ok, Err}
-use Rattle.rml_base.specs.declared.place.Place.{Place}
+use Rattle.std.specs.Prelude.{ℕ, zero, suc, List, [], ◌∷◌, Option, Some, None, Result, Ok}
 use Rattle.rml_syntax.specs.declared.token.Spot.{Spot}
 use Rattle.rml_syntax.specs.declared.token.Mark.TheVariants as mark
 use Rattle.rml_syntax.specs.declared.rules.Long.{Long}

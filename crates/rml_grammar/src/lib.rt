@@ -10,6 +10,6 @@ mod types;
 
 pub use fault::{Fault, ParseKind};
 pub use front::{Front, Opening};
-pub use laws::{exact, shallow_trees, small_trees};
+pub use laws::{begun, exact, shallow_trees, small_trees};
 pub use limits::{larger_limits, limits_counted, one_tree};
 pub use types::{Bracket, Types};

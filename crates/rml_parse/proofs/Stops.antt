@@ -1,5 +1,5 @@
--- Where the grammar of functions stops, in the words of the public call.
-use Rattle.std.proofs.Common.{◌≡◌, ℕ, suc, ◌-◌, ◌<◌, ◌≤◌, List, [], ◌∷◌, ◌++◌, length, refl, sym, ap, subst, ◌∙◌, append-nil, arith, lit<, Some, Result, Ok, Err}
+-- Where the grammar of functions stops, in the words of the public call; and that reading stops in one way.
+use Rattle.std.proofs.Common.{◌≡◌, ℕ, suc, ◌-◌, ◌<◌, ◌≤◌, List, [], ◌∷◌, ◌++◌, length, refl, sym, ap, subst, ◌∙◌, append-nil, append_assoc, arith, lit<, inl, inr, Some, Result, Ok, Err}
 use Rattle.std.specs.Prelude.{slice_get}
 use Rattle.std.proofs.Math.Seq.{get_or-append_seam}
 use Rattle.std.proofs.lemmas.Option.{slice_get-get_or, slice_get_past}
@@ -7,17 +7,20 @@ use Rattle.std.proofs.lemmas.List.{length-append}
 use Rattle.rml_base.specs.declared.limits.TheConstants.{NESTING, RULES}
 use Rattle.rml_base.specs.declared.place.Place.{Place}
 use Rattle.rml_syntax.specs.declared.token.Spot.{Spot}
+use Rattle.rml_syntax.specs.declared.token.Token.{Token}
+use Rattle.rml_syntax.specs.declared.token.Token.TheVariants as token
 use Rattle.rml_syntax.specs.declared.texts.Text.{Text}
 use Rattle.rml_grammar.specs.declared.fault.Fault.{Fault}
 use Rattle.rml_grammar.specs.declared.fault.ParseKind.{ParseKind}
 use Rattle.rml_grammar.specs.declared.fault.ParseKind.TheVariants as kind
+use Rattle.rml_grammar.specs.Beginnings.{Begins, GoesOn, IsText}
 use Rattle.rml_grammar.specs.Laws.{Agrees, IsLimit, IsUnexpected}
-use Rattle.rml_grammar.specs.Limits.{IsAtLimit}
+use Rattle.rml_grammar.specs.Limits.{BeginsRule, IsAtLimit, OpensBracket}
 use Rattle.rml_grammar.specs.SpelledTexts.{Derives}
 use Rattle.rml_grammar.specs.Texts.{whole_text}
-use Rattle.rml_grammar.proofs.Callers.{complete, ended, fault-at, later-fault, placed, refused, within-read}
+use Rattle.rml_grammar.proofs.Callers.{IsBehind, begun, complete, ended, fault-at, goes-on, placed, refused, two-cuts, within-read}
 use Rattle.rml_parse.specs.Answers.{place_left, place_or}
-use Rattle.rml_parse.specs.Faults.{GoesOnBeyond, IsText, IsTextWithin, IsTree, IsWrong, NoneBegins, StopsAt, place_of}
+use Rattle.rml_parse.specs.Faults.{IsAllowed, IsTree, IsWrong, StopsAt, place_of}
 
 -- the place at a cut
 at-cut : (end : Place) (before rest : List Spot) → place_left end (length rest) (before ++ rest) ≡ place_of end rest
@@ -47,36 +50,31 @@ module _ (end : Place) (us : List Spot) (f : Fault) (e : whole_text end NESTING 
   abbrev Reads : List Spot → Type 0
   Reads vs = whole_text end NESTING (RULES - 1) vs ≡ Err f
 
-  -- no text within the limits begins so
-  refused-at : (before rest : List Spot) → us ≡ before ++ rest → f.left ≡ length rest → NoneBegins IsTextWithin before rest
-  refused-at before [] cut left = λ is.
+  -- no text within the limits goes on so
+  refused-at : (before rest : List Spot) → us ≡ before ++ rest → f.left ≡ length rest → GoesOn IsAllowed before rest → ⊥
+  refused-at before [] cut left is =
       let d = ended end is.0.2 in
       let all : us ≡ before = cut ∙ append-nil before in
       let ok : whole_text end NESTING (RULES - 1) before ≡ Ok d.0 = within-read end NESTING (RULES - 1) before d.0 (lit< tt) is.1 d.1 in
       ok-not-err (whole_text end NESTING (RULES - 1) before) d.0 f ok (subst Reads all e)
-  refused-at before (s ∷ rest) cut left = λ others is.
-      refused end is.0.0 NESTING (RULES - 1) before rest others s f is.0.1 (lit< tt) (subst Reads cut e) left is.0.2 is.1
+  refused-at before (s ∷ rest) cut left is =
+      let text = is.1.0 in
+      refused end text.0 NESTING (RULES - 1) before rest is.0 s f text.1 (lit< tt) (subst Reads cut e) left text.2 is.1.1
 
-  -- what is unexpected: no text begins so
-  unexpected-at : f.kind ≡ kind.Unexpected → (before rest : List Spot) → us ≡ before ++ rest → f.left ≡ length rest → NoneBegins IsText before rest
-  unexpected-at u before [] cut left = λ is.
+  -- what is unexpected: no text goes on so
+  unexpected-at : f.kind ≡ kind.Unexpected → (before rest : List Spot) → us ≡ before ++ rest → f.left ≡ length rest → GoesOn IsText before rest → ⊥
+  unexpected-at u before [] cut left is =
       let d = ended end is.2 in
       let all : us ≡ before = cut ∙ append-nil before in
       no-limit f d.0 (whole_text end NESTING (RULES - 1) before) (complete end NESTING (RULES - 1) before d.0 d.1) (subst Reads all e) u
-  unexpected-at u before (s ∷ rest) cut left = λ others is.
+  unexpected-at u before (s ∷ rest) cut left is =
       let i : IsUnexpected (suc (length rest)) (whole_text end NESTING (RULES - 1) (before ++ s ∷ rest)) = subst Reads cut e ∙ ap Err (fault-is f kind.Unexpected (suc (length rest)) u left) in
-      placed end is.0 NESTING (RULES - 1) before rest others s is.1 i is.2
+      placed end is.1.0 NESTING (RULES - 1) before rest is.0 s is.1.1 i is.1.2
 
-  -- what passes a limit is not unexpected
-  beyond : IsLimit f.kind → (before rest : List Spot) → us ≡ before ++ rest → f.left ≡ length rest → GoesOnBeyond end before rest
-  beyond i before rest cut left = λ nesting rules more many g h.
-      let later : g.left < f.left = later-fault end NESTING nesting (RULES - 1) (rules - 1) (before ++ rest) f g more (omega arith) (subst Reads cut e) i h in
-      omega arith
-
-  wrong-at : (k : ParseKind) → f.kind ≡ k → (before rest : List Spot) → us ≡ before ++ rest → f.left ≡ length rest → IsAtLimit k NESTING RULES before rest → IsWrong k end before rest
+  wrong-at : (k : ParseKind) → f.kind ≡ k → (before rest : List Spot) → us ≡ before ++ rest → f.left ≡ length rest → IsAtLimit k NESTING RULES before rest → IsWrong k before rest
   wrong-at kind.Unexpected is before rest cut left at = unexpected-at is before rest cut left
-  wrong-at kind.TooDeep is before rest cut left at = (at, beyond (rw is tt) before rest cut left)
-  wrong-at kind.TooManyRules is before rest cut left at = (at, beyond (rw is tt) before rest cut left)
+  wrong-at kind.TooDeep is before rest cut left at = (at, goes-on end NESTING (RULES - 1) (lit< tt) before rest f (subst Reads cut e) left (rw is tt))
+  wrong-at kind.TooManyRules is before rest cut left at = (at, goes-on end NESTING (RULES - 1) (lit< tt) before rest f (subst Reads cut e) left (rw is tt))
 
   pub stops-at : (p : Place) (k : ParseKind) → p ≡ place_left end f.left us → k ≡ f.kind → StopsAt end us p k
   stops-at p k is same =
@@ -87,31 +85,70 @@ module _ (end : Place) (us : List Spot) (f : Fault) (e : whole_text end NESTING 
         rest = s.rest;
         cut = s.all;
         place_is = is ∙ ap (λ n. place_left end n us) left ∙ place-cut end us s.front s.rest s.all;
+        begun = begun end NESTING (RULES - 1) (lit< tt) s.front s.rest f (subst Reads s.all e) left;
         refused = refused-at s.front s.rest s.all left;
-        within = s.within;
         wrong = wrong-at k (sym same) s.front s.rest s.all left (rw same s.limit);
-        reading = e ∙ ap Err (fault-is f k (length s.rest) (sym same) left);
       }
 
--- reading stops at one place, for one kind of fault
-pub one-stop : (end : Place) (us : List Spot) (p q : Place) (j k : ParseKind) → StopsAt end us p j → StopsAt end us q k → (p ≡ q) × (j ≡ k)
-one-stop end us p q j k a b =
-    let same : ◌≡◌ {A = Fault} (record { kind = j; left = length a.rest }) (record { kind = k; left = length b.rest }) = (let e = sym a.reading ∙ b.reading in cc e) in
-    let left : length a.rest ≡ length b.rest = ap (λ (f : Fault). f.left) same in
-    let kind : j ≡ k = ap (λ (f : Fault). f.kind) same in
-    let x = place-cut end us a.before a.rest a.cut in
-    let y = place-cut end us b.before b.rest b.cut in
-    (a.place_is ∙ sym x ∙ ap (λ n. place_left end n us) left ∙ y ∙ sym b.place_is, kind)
+-- what begins such a list is not behind a token with which none goes on
+no-further : (P : List Spot → Type 0) (before between last : List Spot) → (GoesOn P before (between ++ last) → ⊥) → Begins P (before ++ between) → between ≡ []
+no-further P before [] last none b = refl
+no-further P before (s ∷ between) last none b =
+    let all : (before ++ s ∷ between) ++ b.0 ≡ before ++ s ∷ (between ++ b.0) = append_assoc before (s ∷ between) b.0 in
+    absurd (none (between ++ b.0, subst P all b.1))
 
--- and not where the tokens are a text within the limits
-pub not-both : (end : Place) (us : List Spot) (t : Text) (p : Place) (k : ParseKind) → IsTree end us t → StopsAt end us p k → ⊥
-not-both end us t p k d s =
-    ok-not-err (whole_text end NESTING (RULES - 1) us) t (record { kind = k; left = length s.rest }) (within-read end NESTING (RULES - 1) us t (lit< tt) d.within d.derived) s.reading
+no-rule : (t : Token) → OpensBracket t → BeginsRule t → ⊥
+no-rule (token.Sign m) o r = r
+no-rule (token.Word k) o r = o
+no-rule (token.Name n) o r = o
+no-rule (token.TyVar n) o r = o
+no-rule (token.Lit l) o r = o
+no-rule (token.Dashes n) o r = o
 
--- what is unexpected is so in no text
-none-begins : (P : List Spot → Type 0) (before rest : List Spot) → NoneBegins P before rest → P (before ++ rest) → ⊥
-none-begins P before [] none p = none (subst P (append-nil before) p)
-none-begins P before (s ∷ rest) none p = none rest p
+one-limit : (n m : ℕ) (before rest : List Spot) → IsAtLimit kind.TooDeep n m before rest → IsAtLimit kind.TooManyRules n m before rest → ⊥
+one-limit n m before rest a b =
+    let same : b.0 ≡ a.0 = (let e : b.0 ∷ b.1 ≡ a.0 ∷ a.1 = sym b.2 ∙ a.2 in cc e) in
+    let rule : BeginsRule a.0.token = subst (λ (s : Spot). BeginsRule s.token) same b.3 in
+    no-rule a.0.token a.3 rule
 
-pub no-text-there : (end : Place) (us : List Spot) (t : Text) (p : Place) → StopsAt end us p kind.Unexpected → Derives end us t → ⊥
-no-text-there end us t p s d = none-begins IsText s.before s.rest s.wrong (end, t, subst (λ (vs : List Spot). Derives end vs t) s.cut d)
+-- at one cut for one kind of fault
+one-kind : (j k : ParseKind) (before rest : List Spot) → IsWrong j before rest → IsWrong k before rest → j ≡ k
+one-kind kind.Unexpected kind.Unexpected before rest a b = refl
+one-kind kind.Unexpected kind.TooDeep before rest a b = absurd (a b.1)
+one-kind kind.Unexpected kind.TooManyRules before rest a b = absurd (a b.1)
+one-kind kind.TooDeep kind.Unexpected before rest a b = absurd (b a.1)
+one-kind kind.TooDeep kind.TooDeep before rest a b = refl
+one-kind kind.TooDeep kind.TooManyRules before rest a b = absurd (one-limit NESTING RULES before rest a.0 b.0)
+one-kind kind.TooManyRules kind.Unexpected before rest a b = absurd (b a.1)
+one-kind kind.TooManyRules kind.TooDeep before rest a b = absurd (one-limit NESTING RULES before rest b.0 a.0)
+one-kind kind.TooManyRules kind.TooManyRules before rest a b = refl
+
+module _ (end : Place) (us : List Spot) where
+  not-behind : (p q : Place) (j k : ParseKind) (a : StopsAt end us p j) (b : StopsAt end us q k) → IsBehind a.before a.rest b.before b.rest → (p ≡ q) × (j ≡ k)
+  not-behind p q j k a b h =
+      let none : GoesOn IsAllowed a.before (h.between ++ b.rest) → ⊥ = subst (λ (vs : List Spot). GoesOn IsAllowed a.before vs → ⊥) h.rest a.refused in
+      let more : Begins IsAllowed (a.before ++ h.between) = subst (λ (vs : List Spot). Begins IsAllowed vs) h.front b.begun in
+      let nothing : h.between ≡ [] = no-further IsAllowed a.before h.between b.rest none more in
+      let rest : a.rest ≡ b.rest = h.rest ∙ ap (λ (vs : List Spot). vs ++ b.rest) nothing in
+      let before : a.before ≡ b.before = sym (h.front ∙ ap (λ (vs : List Spot). a.before ++ vs) nothing ∙ append-nil a.before) in
+      let wrong : IsWrong j b.before b.rest = subst (λ (vs : List Spot). IsWrong j vs b.rest) before (subst (λ (vs : List Spot). IsWrong j a.before vs) rest a.wrong) in
+      (a.place_is ∙ ap (place_of end) rest ∙ sym b.place_is, one-kind j k b.before b.rest wrong b.wrong)
+
+  -- reading stops at one place, for one kind of fault
+  pub one-stop : (p q : Place) (j k : ParseKind) → StopsAt end us p j → StopsAt end us q k → (p ≡ q) × (j ≡ k)
+  one-stop p q j k a b = elim (two-cuts a.before a.rest b.before b.rest (sym a.cut ∙ b.cut)) [
+    | inl h ↦ not-behind p q j k a b h
+    | inr h ↦ (let same = not-behind q p k j b a h in (sym same.0, sym same.1))
+  ]
+
+  goes-on-whole : (P : List Spot → Type 0) (before rest : List Spot) → us ≡ before ++ rest → P us → GoesOn P before rest
+  goes-on-whole P before [] e h = subst P (e ∙ append-nil before) h
+  goes-on-whole P before (s ∷ rest) e h = (rest, subst P e h)
+
+  -- and not where the tokens are a text within the limits
+  pub not-both : (t : Text) (p : Place) (k : ParseKind) → IsTree end us t → StopsAt end us p k → ⊥
+  not-both t p k d s = s.refused (goes-on-whole IsAllowed s.before s.rest s.cut ((end, t, d.derived), d.within))
+
+  -- what is unexpected is so in no text
+  pub no-text-there : (t : Text) (p : Place) → StopsAt end us p kind.Unexpected → Derives end us t → ⊥
+  no-text-there t p s d = s.wrong (goes-on-whole IsText s.before s.rest s.cut (end, t, d))

@@ -3,6 +3,7 @@
 ghost use Rattle.std.specs.Prelude.{◌≡◌, ◌<◌, ◌≤◌, ◌-◌, IfOk, length};
 ghost use Rattle.rml_base.specs.declared.limits.TheConstants.{BYTES};
 ghost use Rattle.rml_grammar.specs.Texts as grammar;
+ghost use Rattle.rml_grammar.specs.Trees.{rule_of};
 ghost use Rattle.rml_parse.specs.Mirrors.{Mirrors};
 
 use crate::expressions::results;
@@ -138,7 +139,7 @@ fn rule_results(alloc: Global, spots: &[Spot], levels: u32) -> Result<(Items<Exp
 }
 
 fn rule_from(place: Place, goals: Items<Goal>, head: Head, tokens: u32) -> Rule
-    ensures { result ≡ grammar.rule_of place goals ((head.name, head.place), head.inputs, head.results) tokens }
+    ensures { result ≡ rule_of place goals ((head.name, head.place), head.inputs, head.results) tokens }
 {
     Rule {
         place,

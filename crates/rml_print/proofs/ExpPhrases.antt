@@ -16,7 +16,7 @@ use Rattle.rml_print.specs.Expressions.{bare_exp, exp_at, exp_tokens}
 use Rattle.rml_print.specs.Parts.{Printed, long_tokens}
 use Rattle.rml_print.specs.Printable.{IsPrintable}
 use Rattle.rml_print.specs.Seats.{exp_shape_at}
-use Rattle.rml_print.proofs.Folds.{exp-App, exp-Cons, exp-List, exp-Lit, exp-Name, exp-Tuple}
+use Rattle.rml_grammar.proofs.Callers.{exp-App, exp-Cons, exp-List, exp-Lit, exp-Name, exp-Tuple}
 use Rattle.rml_print.proofs.NamePhrases.{Good, first, long-closed, others}
 use Rattle.rml_print.proofs.Phrases.{AllFine, Closed, Fine, Phrase, both, fine, listed-phrase, one, square, tupled-phrase}
 

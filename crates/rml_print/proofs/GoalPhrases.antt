@@ -18,7 +18,7 @@ use Rattle.rml_print.specs.Goals.{goal_at, goal_tokens}
 use Rattle.rml_print.specs.Parts.{long_tokens}
 use Rattle.rml_print.specs.Patterns.{pattern_tokens}
 use Rattle.rml_print.proofs.ExpPhrases.{FineExp, FineExps, eargs-fine, exp-fine}
-use Rattle.rml_print.proofs.Folds.{goal-All, goal-Call, goal-Equal, goal-Let, goal-Not}
+use Rattle.rml_grammar.proofs.Callers.{goal-All, goal-Call, goal-Equal, goal-Let, goal-Not}
 use Rattle.rml_print.proofs.NamePhrases.{Good, long-closed, others}
 use Rattle.rml_print.proofs.PatternPhrases.{FinePattern, FinePatterns, pattern-fine, pseq-fine}
 use Rattle.rml_print.proofs.Phrases.{Closed, Phrase, Phrases, both, put, results-phrase, round, separated-phrase, tupled-phrase}

@@ -6,7 +6,6 @@ pub mod Neighbours
 pub mod Cuts
 pub mod Given
 pub mod Phrases
-pub mod Folds
 pub mod NamePhrases
 pub mod ExpPhrases
 pub mod PatternPhrases

@@ -18,7 +18,7 @@ use Rattle.rml_print.specs.Parts.{Printed, long_tokens}
 use Rattle.rml_print.specs.Patterns.{bare_pattern, pattern_at, pattern_tokens}
 use Rattle.rml_print.specs.Printable.{IsPrintable}
 use Rattle.rml_print.specs.Seats.{pattern_shape_at}
-use Rattle.rml_print.proofs.Folds.{pattern-Any, pattern-App, pattern-Bind, pattern-Cons, pattern-List, pattern-Lit, pattern-Name, pattern-Tuple}
+use Rattle.rml_grammar.proofs.Callers.{pattern-Any, pattern-App, pattern-Bind, pattern-Cons, pattern-List, pattern-Lit, pattern-Name, pattern-Tuple}
 use Rattle.rml_print.proofs.NamePhrases.{Good, first, long-closed, others}
 use Rattle.rml_print.proofs.Phrases.{AllFine, Closed, Fine, Phrase, both, fine, listed-phrase, one, put, square, tupled-phrase}
 

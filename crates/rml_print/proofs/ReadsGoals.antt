@@ -24,7 +24,7 @@ use Rattle.rml_print.specs.Plain.{plain_long, plain_exp, plain_pattern, plain_go
 use Rattle.rml_print.proofs.Shown.{Shows, ended, shown, cut, InRound, in_round_brackets, round-shown, Closes, closing, encloses-round, closes-equals, Again, ReadsAgain, Each, none, also, OneOrMore, first, each-map, together, First, separated-again, long-again}
 use Rattle.rml_print.proofs.ReadsExpressions.{ExpReads, exp-reads, eargs-read, eargs-again}
 use Rattle.rml_print.proofs.ReadsPatterns.{PatternReads, pattern-reads, pseq-read, result-again, results-again}
-use Rattle.rml_print.proofs.Folds as fold
+use Rattle.rml_grammar.proofs.Callers as fold
 
 -- what stands behind a goal: nothing that goes on with its last part, and no results
 pub record GoalStops (us : List Spot) : Type 0 where

@@ -25,7 +25,7 @@ use Rattle.rml_print.specs.Plain.{nowhere, plain_long, plain_pattern, plain_patt
 use Rattle.rml_print.specs.Seats.{pattern_shape_at}
 use Rattle.rml_print.proofs.Shown.{Shows, ended, shown, cut, InRound, in_round_brackets, InSquare, in_square_brackets, round-shown, square-shown, Stops, stops-chain, Closes, closes-comma, Encloses, encloses-round, encloses-square, Again, ReadsAgain, Each, none, also, OneOrMore, first, each-of, each-map, together, First, separated-again, listed-shown, long-again}
 use Rattle.rml_print.proofs.OneReading.{pat-one, apart}
-use Rattle.rml_print.proofs.Folds as fold
+use Rattle.rml_grammar.proofs.Callers as fold
 
 -- one result
 abbrev IsResult : List Spot → Pattern → List Spot → Type 0

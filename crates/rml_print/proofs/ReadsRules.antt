@@ -14,10 +14,10 @@ use Rattle.rml_syntax.specs.declared.rules.Goal.{Goal}
 use Rattle.rml_syntax.specs.declared.rules.Rule.{Rule}
 use Rattle.rml_grammar.specs.Tokens.{word, dashes, Lacks, LacksWord}
 use Rattle.rml_grammar.specs.Lacks.{LacksClause, LacksUses}
-use Rattle.rml_grammar.specs.Texts.{Head, rule_of}
 use Rattle.rml_grammar.specs.SpelledGoals.{some_goals}
 use Rattle.rml_grammar.specs.SpelledTexts as s
 use Rattle.rml_grammar.specs.SpelledTexts.{IsRuleResults, IsHead, IsClause, IsMoreClauses}
+use Rattle.rml_grammar.specs.Trees.{Head, rule_of}
 use Rattle.rml_print.specs.Lines.{Line}
 use Rattle.rml_print.specs.Parts.{tupled, results_tokens}
 use Rattle.rml_print.specs.Patterns.{pattern_tokens}

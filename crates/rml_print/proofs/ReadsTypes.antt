@@ -19,7 +19,7 @@ use Rattle.rml_print.specs.Parts.{Printed, in_round, listed, tupled, long_by, lo
 use Rattle.rml_print.specs.Types.{argument_tokens, sequence_tokens, type_at, sig_at, type_tokens, sig_tokens}
 use Rattle.rml_print.specs.Plain.{plain_long, plain_type_at, plain_sig_at, plain_type, plain_sig}
 use Rattle.rml_print.proofs.Shown.{Shows, ended, shown, cut, InRound, in_round_brackets, round-shown, Stops, stops-star, Closes, closes-comma, closes-arrow, Encloses, encloses-round, Again, ReadsAgain, Each, none, also, each-map, together, First, separated-again, listed-shown, long-again}
-use Rattle.rml_print.proofs.Folds as fold
+use Rattle.rml_grammar.proofs.Callers as fold
 
 abbrev free_tokens : TypeExp → List Token
 free_tokens t = type_tokens t Free

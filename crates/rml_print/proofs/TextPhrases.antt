@@ -22,10 +22,10 @@ use Rattle.rml_syntax.specs.declared.types.TypeHead.{TypeHead}
 use Rattle.rml_syntax.specs.declared.texts.Decl.{Decl}
 use Rattle.rml_syntax.specs.declared.texts.Text.{Text}
 use Rattle.rml_syntax.specs.declared.texts.Uses.{Uses}
-use Rattle.rml_grammar.specs.Texts.{Head, rule_of}
 use Rattle.rml_grammar.specs.Tokens.{dashes, word}
 use Rattle.rml_grammar.specs.SpelledTexts as s
 use Rattle.rml_grammar.specs.SpelledTexts.{Derives, IsAbbrev, IsClause, IsCon, IsData, IsDatas, IsDecl, IsDecls, IsHead, IsMoreClauses, IsMoreCons, IsMoreDatas, IsMoreTyvars, IsOptionalSig, IsOptionalType, IsRuleResults, IsSpec, IsSpecs, IsThead, IsUses}
+use Rattle.rml_grammar.specs.Trees.{Head, rule_of}
 use Rattle.rml_print.specs.declared.seats.Seat.TheVariants.{Free}
 use Rattle.rml_print.specs.Expressions.{exp_tokens}
 use Rattle.rml_print.specs.Goals.{goal_tokens}

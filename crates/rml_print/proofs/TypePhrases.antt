@@ -21,7 +21,7 @@ use Rattle.rml_print.specs.Printable.{ArePrintable, IsPrintable}
 use Rattle.rml_print.specs.Seats.{is_bracketed, type_shape_at}
 use Rattle.rml_print.specs.Source.{IsSigOfSomeText}
 use Rattle.rml_print.specs.Types.{argument_tokens, bare_type, sequence_tokens, sig_at, sig_tokens, type_at, type_tokens}
-use Rattle.rml_print.proofs.Folds.{sig-is, type-App, type-Rel, type-Tuple, type-Var}
+use Rattle.rml_grammar.proofs.Callers.{sig-is, type-App, type-Rel, type-Tuple, type-Var}
 use Rattle.rml_print.proofs.NamePhrases.{AllLongs, Good, all-longs, behind-front, first, long-closed, longs-closed, others, spots-printable}
 use Rattle.rml_print.proofs.Phrases.{AllFine, Closed, Phrase, both, closed-both, closed-round, nothing, one, printable, put, round, starred, tupled-phrase}
 

@@ -16,8 +16,6 @@ use Rattle.rml_syntax.specs.declared.types.TypeExp.TheVariants as type
 use Rattle.rml_syntax.specs.declared.texts.Decl.{Decl}
 use Rattle.rml_syntax.specs.declared.texts.Text.{Text}
 use Rattle.rml_grammar.specs.Tokens.{word, named, sign, dashes, Lacks}
-use Rattle.rml_grammar.specs.Reading.{short}
-use Rattle.rml_grammar.specs.Texts.{Head, rule_of}
 use Rattle.rml_grammar.specs.SpelledNames as n
 use Rattle.rml_grammar.specs.SpelledTypes as y
 use Rattle.rml_grammar.specs.SpelledTypes.{IsSig}
@@ -27,6 +25,7 @@ use Rattle.rml_grammar.specs.SpelledGoals as g
 use Rattle.rml_grammar.specs.SpelledGoals.{IsGoal, IsGoals, IsMoreGoals}
 use Rattle.rml_grammar.specs.SpelledTexts as t
 use Rattle.rml_grammar.specs.SpelledTexts.{Derives, IsClause, IsDecl, IsHead, IsOptionalSig}
+use Rattle.rml_grammar.specs.Trees.{Head, rule_of, short}
 use Rattle.rml_lex.specs.Numbered.{token_in}
 use Rattle.rml_top.specs.FirstForm.{Parts, Premise, conclusion, further, interface, opening, premise, tokens_of}
 use Rattle.rml_top.proofs.Fits.{fits, tokens_in}
