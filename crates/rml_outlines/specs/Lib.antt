@@ -1,0 +1,4 @@
+pub mod Lookups
+pub mod Declarations
+pub mod Files
+pub mod Outlines

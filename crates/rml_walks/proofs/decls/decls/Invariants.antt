@@ -1,0 +1,8 @@
+use Rattle.std.proofs.Common.{◌≡◌, map, drop}
+use Rattle.rml_scopes.specs.Steps.{joined, decl_steps}
+use Rattle.rml_scopes.specs.Walks.{run}
+use Rattle.rml_walks.proofs.decls.decls.Given as goal
+
+abbrev pub invariant-loop-item : goal.invariant-loop-item
+invariant-loop-item l =
+    run l.world l.fn.walk (joined (map decl_steps l.trees)) ≡ run l.world l.walk (joined (map decl_steps (drop l.item-index l.trees)))
