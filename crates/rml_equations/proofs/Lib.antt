@@ -1,0 +1,4 @@
+pub mod CodedTypes
+pub mod RebuiltTypes
+pub mod Joining
+pub mod Callers

@@ -1,0 +1,4 @@
+pub mod Coding
+pub mod Rebuilding
+pub mod Joins
+pub mod Stops
