@@ -13,7 +13,7 @@ use Rattle.rml_clause.specs.declared.pass.making.Making.{Making}
 use Rattle.rml_clause.specs.Fresh.{fresh, fresh_in, fresh_at, alternative_fresh_at, case_fresh_at}
 use Rattle.rml_clause.specs.Plain.{numbers_from, AreIn, AreMatched, ArePremises, IsRule, AreRules}
 use Rattle.rml_clause.specs.Added.{Adds}
-use Rattle.rml_clause.specs.Clauses.{IsNumbered, IsBlock, EachNumbered}
+use Rattle.rml_clause.specs.Clauses.{IsNumbered, IsBlock, EachNumbered, AreEnough}
 use Rattle.rml_clause.proofs.Adding.{fresh-both, adds-both}
 
 fresh-Give : (xs : List ℕ) → fresh (stmt.Give xs) ≡ []
@@ -56,6 +56,7 @@ block-made names params r start headed searched set made ys counted empty from f
         few = omega (arith, all.few);
         below = omega (arith, all.next, same, from);
       };
+      few = omega (arith, all.next, all.few, same, from);
     }
 
 -- ---- one more rule
@@ -76,6 +77,10 @@ numbered-last params end later [] (b ∷ alts) r a le h i = absurd h
 numbered-last params end later (q ∷ rs) [] r a le h i = absurd h
 numbered-last params end later (q ∷ rs) (b ∷ alts) r a le h i = (numbered-more _ _ end later _ le h.0, numbered-last params end later rs alts r a le h.1 i)
 
+enough-last : (params most : ℕ) (rs : List RRule) (r : RRule) → AreEnough params most (rs ++ r ∷ []) → AreEnough params most rs × (params + r.vars + rule_size r ≤ most)
+enough-last params most [] r h = (tt, h.0)
+enough-last params most (q ∷ rs) r h = let rest = enough-last params most rs r h.1 in ((h.0, rest.0), rest.1)
+
 -- ---- a turn of the loop over rules
 
 module _ (names : List (List ℕ)) (params : ℕ) (rules : List RRule) (i : ℕ) (r d : RRule) (alts later : List Alternative) (a : Alternative) (m : Making)
@@ -95,3 +100,8 @@ module _ (names : List (List ℕ)) (params : ℕ) (rules : List RRule) (i : ℕ)
       (subst (λ all. EachNumbered params most (take i rules ++ r ∷ []) all) (sym pushed)
       (numbered-last params end most (take i rules) alts r a le h
       (subst (λ s. IsNumbered (params + r.vars) (rule_size r) most s) (sym holds) (numbered-more (params + r.vars) (rule_size r) m.next most m.stmts below made.numbered))))
+
+  pub few-pushed : (end most : ℕ) → params ≤ most → AreEnough params most (take (i + 1) rules) → (AreEnough params most (take i rules) → end ≤ most) → (end ≤ most) × (m.next ≤ most)
+  few-pushed end most le h few =
+      let parts = enough-last params most (take i rules) r (subst (λ rs. AreEnough params most rs) taken h) in
+      (few parts.0, omega (arith, made.few, parts.1))

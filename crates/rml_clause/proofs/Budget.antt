@@ -7,8 +7,7 @@ use Rattle.rml_simulation.specs.Partial.{traced, followed}
 use Rattle.rml_simulation.specs.Simulates.{Credit, Simulates}
 use Rattle.rml_simulation.specs.Calls.{Calls}
 use Rattle.rml_simulation.specs.Carries.{SimulatesAct, kept, acted}
-use Rattle.rml_simulation.proofs.Followed.{followed_after, both_traced, traced_weight}
-use Rattle.rml_simulation.proofs.SimulatesMoves.{both_step, equal, lower, new_weigh, old_weigh, old_wrong}
+use Rattle.rml_simulation.proofs.Callers.{both_step, both_traced, equal, followed_after, lower, new_weigh, old_weigh, old_wrong, traced_weight}
 use Rattle.rml_search.specs.Search.{weighted_step, step_trace}
 use Rattle.rml_fol.specs.Statements.{weight_alone, weighing}
 

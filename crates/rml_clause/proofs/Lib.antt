@@ -14,3 +14,4 @@ pub mod Blocks
 pub mod MadePremises
 pub mod Returned
 pub mod Passed
+pub mod Callers

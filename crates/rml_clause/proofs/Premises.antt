@@ -9,7 +9,7 @@ use Rattle.rml_simulation.specs.declared.partial.Partial.TheVariants.{No}
 use Rattle.rml_simulation.specs.Partial.{untraced, take_step, then_go, unless, traced, followed}
 use Rattle.rml_simulation.specs.Simulates.{Credit}
 use Rattle.rml_simulation.specs.Carries.{SimulatesAct, kept, acted}
-use Rattle.rml_simulation.proofs.Followed.{followed_after, followed_step, followed_then, followed_unless, traced_none}
+use Rattle.rml_simulation.proofs.Callers.{followed_after, followed_step, followed_then, followed_unless, traced_none}
 use Rattle.rml_value.specs.declared.value.Value.{Value}
 use Rattle.rml_value.specs.Same.{same}
 use Rattle.rml_builtin.specs.declared.applied.Answer.{Answer}

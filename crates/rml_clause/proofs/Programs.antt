@@ -75,7 +75,7 @@ max_from a [] = omega arith
 max_from a (x ∷ xs) = let more : max a x ≤ fold max (max a x) xs = max_from (max a x) xs in omega arith
 
 -- no rule has more tokens
-abbrev EachUpTo : ℕ → List RRule → Type 0
+abbrev pub EachUpTo : ℕ → List RRule → Type 0
 EachUpTo most [] = Unit {0}
 EachUpTo most (r ∷ rules) = (r.tokens ≤ most) × EachUpTo most rules
 
@@ -98,7 +98,7 @@ up_to_longest a (x ∷ rels) zero r is =
 up_to_longest a (x ∷ rels) (suc k) r is =
     subst (λ (n : ℕ). EachUpTo n r.rules) (sym (fold-append max a (tokens_of x) (concat (map tokens_of rels)))) (up_to_longest (fold max a (tokens_of x)) rels k r is)
 
-up_to : (rels : List RelDef) (k : ℕ) (r : RelDef) → slice_get rels k ≡ Some r → EachUpTo (longest rels) r.rules
+pub up_to : (rels : List RelDef) (k : ℕ) (r : RelDef) → slice_get rels k ≡ Some r → EachUpTo (longest rels) r.rules
 unfolding longest
 up_to rels k r is = up_to_longest 0 rels k r is
 
@@ -126,7 +126,7 @@ shorts {names} {params} (AreRules.more r rules a alternatives plain others) most
 
 -- ---- relations
 
-passes_at : {X : Type 0} (test : X → Bool) (xs : List X) (k : ℕ) (x : X) → IsTrue (list_all test xs) → slice_get xs k ≡ Some x → IsTrue (test x)
+pub passes_at : {X : Type 0} (test : X → Bool) (xs : List X) (k : ℕ) (x : X) → IsTrue (list_all test xs) → slice_get xs k ≡ Some x → IsTrue (test x)
 passes_at test [] k x h is = absurd (cc)
 passes_at test (y ∷ ys) zero x h is = subst (λ (z : _). IsTrue (test z)) (same_Some y x is) (both (test y) (list_all test ys) h).first
 passes_at test (y ∷ ys) (suc k) x h is = passes_at test ys k x (both (test y) (list_all test ys) h).second is

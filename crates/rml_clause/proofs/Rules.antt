@@ -11,8 +11,7 @@ use Rattle.rml_simulation.specs.Partial.{untraced, after, then_go, or_else, foll
 use Rattle.rml_simulation.specs.Simulates.{Credit, Simulates}
 use Rattle.rml_simulation.specs.Moves.{AtMost, more_steps}
 use Rattle.rml_simulation.specs.Carries.{SimulatesAct, kept, acted}
-use Rattle.rml_simulation.proofs.Followed.{followed_step, followed_then, followed_else, traced_none}
-use Rattle.rml_simulation.proofs.SimulatesMoves.{equal, old_step, old_weigh, old_wrong, weaken}
+use Rattle.rml_simulation.proofs.Callers.{equal, followed_else, followed_step, followed_then, old_step, old_weigh, old_wrong, traced_none, weaken}
 use Rattle.rml_value.specs.declared.value.Value.{Value}
 use Rattle.rml_builtin.specs.declared.applied.Answer.{Answer}
 use Rattle.rml_builtin.specs.Applied.{Store}

@@ -7,7 +7,7 @@ use Rattle.rml_simulation.specs.declared.partial.Partial.{Partial}
 use Rattle.rml_simulation.specs.declared.partial.Partial.TheVariants.{No}
 use Rattle.rml_simulation.specs.Partial.{untraced, stopped, followed}
 use Rattle.rml_simulation.specs.Simulates.{Credit}
-use Rattle.rml_simulation.proofs.Followed.{traced_none}
+use Rattle.rml_simulation.proofs.Callers.{traced_none}
 use Rattle.rml_value.specs.declared.value.Value.{Value}
 use Rattle.rml_builtin.specs.Applied.{Store}
 use Rattle.rml_terms.specs.declared.state.Binding.{Binding}

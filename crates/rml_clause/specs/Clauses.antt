@@ -23,6 +23,8 @@ pub record IsNumbered (from most end : ℕ) (block : List Stmt) : Type 0 where
 pub record IsBlock (names : List (List ℕ)) (params : ℕ) (r : RRule) (m : Making) : Type 0 where
   pub rule : IsRule names params r m.stmts
   pub numbered : IsNumbered (params + r.vars) (rule_size r) m.next m.stmts
+  -- and it needs no more numbers
+  pub few : m.next ≤ params + r.vars + rule_size r
 
 -- the alternatives of rules
 abbrev pub EachNumbered : ℕ → ℕ → List RRule → List Alternative → Type 0
@@ -31,6 +33,11 @@ EachNumbered params end [] (a ∷ alternatives) = ⊥
 EachNumbered params end (r ∷ rules) [] = ⊥
 EachNumbered params end (r ∷ rules) (a ∷ alternatives) = IsNumbered (params + r.vars) (rule_size r) end (out-Alternative a).block × EachNumbered params end rules alternatives
 
+-- so many numbers are enough for the variables of each rule: the parameters, its own, and one for each of its parts
+abbrev pub AreEnough : ℕ → ℕ → List RRule → Type 0
+AreEnough params most [] = Unit {0}
+AreEnough params most (r ∷ rules) = (params + r.vars + rule_size r ≤ most) × AreEnough params most rules
+
 -- a body in plain form, whose variables are numbers below `vars`
 pub record AreClauses (names : List (List ℕ)) (params : ℕ) (rules : List RRule) (body : List Stmt) (vars : ℕ) : Type 0 where
   pub alternatives : List Alternative
@@ -38,6 +45,8 @@ pub record AreClauses (names : List (List ℕ)) (params : ℕ) (rules : List RRu
   pub is : body ≡ stmt.Or alternatives ∷ []
   pub numbered : EachNumbered params vars rules alternatives
   pub params_below : params ≤ vars
+  -- which is no more than what is enough
+  pub few : (most : ℕ) → params ≤ most → AreEnough params most rules → vars ≤ most
 
 -- there are numbers enough for the variables of each rule
 abbrev pub HasRoom : ℕ → RRule → Type 0

@@ -4,4 +4,4 @@
 pub mod laws;
 mod pass;
 
-pub use pass::{Clauses, clauses_of_relation};
+pub use pass::{Clauses, bytes_of, clauses_of_relation, expression};

@@ -7,3 +7,4 @@ mod rules;
 mod terms;
 
 pub use rules::{Clauses, clauses_of_relation};
+pub use terms::{bytes_of, expression};

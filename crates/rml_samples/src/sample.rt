@@ -1,9 +1,11 @@
 //! A small program that is built by hand: the tables that every program begins with, a datatype of trees, two vals, and
 //! relations of the caller's.
 
+use crate::spelled::{self, Part};
 use rml_base::{Bytes, Memory, Place};
 use rml_builtin::types::{BOOL, INT, LIST, OPTION, STRING};
-use rml_resolved::{ConDef, Parts, RExp, RGoal, RPat, RRule, RelDef, TypeDef, ValDef};
+use rml_checked::program_of;
+use rml_resolved::{ConDef, Parts, Program, RExp, RGoal, RPat, RRule, RelDef, TypeDef, ValDef};
 use rml_syntax::Lit;
 use rml_types::{Scheme, SchemeTree};
 use sqlite_items::Items;
@@ -302,7 +304,7 @@ fn relations(alloc: Global, gives: bool, own: Vec<Vec<RRule>>) -> Result<Items<R
 }
 
 /// The tables of a program of these relations.
-pub fn parts(alloc: Global, gives: bool, own: Vec<Vec<RRule>>) -> Result<Parts, Fail> {
+fn parts(alloc: Global, gives: bool, own: Vec<Vec<RRule>>) -> Result<Parts, Fail> {
     Ok(Parts {
         names: names(alloc)?,
         types: types(alloc)?,
@@ -312,4 +314,11 @@ pub fn parts(alloc: Global, gives: bool, own: Vec<Vec<RRule>>) -> Result<Parts, 
         main: MAIN,
         gives,
     })
+}
+
+/// The program of the relations that the parts spell.
+pub fn program(alloc: Global, spelled: &[&[Part]], gives: bool) -> Result<Program, Fail> {
+    let own = spelled::relations(alloc, spelled)?;
+    let parts = parts(alloc, gives, own)?;
+    Ok(program_of(alloc, parts)?.ok_or("a program")?)
 }

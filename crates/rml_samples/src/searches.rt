@@ -9,21 +9,14 @@ use crate::programs::{
     PRINTING_PREMISE, RANGE, RESULT_WITHOUT_PATTERN, TEXTS, UNDONE_SETTINGS, VECTOR,
     VECTOR_EQUALITY, WITHOUT_END,
 };
-use crate::sample::parts;
-use crate::spelled::{Part, relations};
+use crate::sample::program;
+use crate::spelled::Part;
 use rml_base::laws::{light_reflexive, same_reflexive};
 use rml_base::{Bytes, Outcome};
-use rml_checked::program_of;
 use rml_resolved::Program;
 use rml_search::{Searched, search};
 use std::alloc::Global;
 use std::test::Fail;
-
-fn program(alloc: Global, spelled: &[&[Part]], gives: bool) -> Result<Program, Fail> {
-    let own = relations(alloc, spelled)?;
-    let parts = parts(alloc, gives, own)?;
-    Ok(program_of(alloc, parts)?.ok_or("a program")?)
-}
 
 /// The most steps of a search without arguments, how it ends, and what it prints.
 type Ends = &'static [(u32, Outcome, &'static str)];

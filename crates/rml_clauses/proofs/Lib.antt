@@ -1,0 +1,12 @@
+pub mod Rows
+pub mod Counts
+pub mod Within
+pub mod Ready
+pub mod Made
+pub mod Terms
+pub mod Statements
+pub mod Sizes
+pub mod Beginning
+pub mod Weighed
+pub mod Kept
+pub mod Whole

@@ -1,0 +1,5 @@
+pub mod Agrees
+pub mod Meaning
+pub mod Tables
+pub mod Ready
+pub mod Facts
