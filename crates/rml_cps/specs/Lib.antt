@@ -1,0 +1,13 @@
+pub mod Tables
+pub mod Weights
+pub mod Statements
+pub mod Relations
+pub mod Runs
+pub mod Acts
+pub mod Ways
+pub mod Growing
+pub mod Fits
+pub mod Scoped
+pub mod Ends
+pub mod Size
+pub mod Text
