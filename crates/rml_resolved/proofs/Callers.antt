@@ -3,4 +3,5 @@ pub use Rattle.rml_resolved.proofs.Counted.{count-small, counted-less, counted-m
 pub use Rattle.rml_resolved.proofs.Facts.{Both, both, facts}
 pub use Rattle.rml_resolved.proofs.Numbers.{same_told}
 pub use Rattle.rml_resolved.proofs.Rounds.{by_rounds, is_it}
-pub use Rattle.rml_resolved.proofs.Variables.{passes}
+pub use Rattle.rml_resolved.proofs.Variables.{Below, passes, rule_below}
+pub use Rattle.rml_resolved.proofs.Words.{constant_at, first_so, list_at, opened, var_at}

@@ -28,7 +28,7 @@ use Rattle.rml_resolved.proofs.Facts.{both}
 use Rattle.rml_resolved.proofs.Rounds.{both_ways, is_it, apart}
 
 -- each of these is below a number
-abbrev Below : ℕ → List ℕ → Type 0
+abbrev pub Below : ℕ → List ℕ → Type 0
 Below vars xs = (x : ℕ) → contains x xs ≡ true → x < vars
 
 none-below : (vars : ℕ) → Below vars []
@@ -120,7 +120,7 @@ module _ (n : Counts) (cons : List ConDef) (vars : ℕ) where
 
 -- ---- rules
 
-rule_below : (n : Counts) (cons : List ConDef) (r : RRule) → rule_fits n cons r ≡ true → Below r.vars (rule_binds r)
+pub rule_below : (n : Counts) (cons : List ConDef) (r : RRule) → rule_fits n cons r ≡ true → Below r.vars (rule_binds r)
 rule_below n cons r h =
     let two = both (patterns_fit n cons r.vars r.inputs && goals_fit n cons r.vars r.goals) (exps_fit n cons r.vars r.results) h in
     let one = both (patterns_fit n cons r.vars r.inputs) (goals_fit n cons r.vars r.goals) two.first in

@@ -22,23 +22,23 @@ use Rattle.rml_resolved.proofs.Facts.{both}
 made : (t : SchemeTree) → t ≡ roll-SchemeTree (out-SchemeTree t)
 made = ind-SchemeTree (λ t. t ≡ roll-SchemeTree (out-SchemeTree t)) (λ x y is. ap roll-SchemeTree (sym (out-roll-SchemeTree x)))
 
-opened : (t : SchemeTree) (z : SchemeTree-F SchemeTree) → out-SchemeTree t ≡ z → t ≡ roll-SchemeTree z
+pub opened : (t : SchemeTree) (z : SchemeTree-F SchemeTree) → out-SchemeTree t ≡ z → t ≡ roll-SchemeTree z
 opened t z e = made t ∙ ap roll-SchemeTree e
 
-var_at : (k : ℕ) (t : SchemeTree) (z : SchemeTree-F SchemeTree) → out-SchemeTree t ≡ z → is_var k z ≡ true → t ≡ tree.Var k
+pub var_at : (k : ℕ) (t : SchemeTree) (z : SchemeTree-F SchemeTree) → out-SchemeTree t ≡ z → is_var k z ≡ true → t ≡ tree.Var k
 var_at k t (SchemeTree-F.Var j) e h = opened t (SchemeTree-F.Var j) e ∙ rolls-Var j ∙ ap tree.Var (sym (eqb-true k j h))
 var_at k t (SchemeTree-F.Named c ts) e h = absurd (cc)
 var_at k t (SchemeTree-F.Tuple ts) e h = absurd (cc)
 var_at k t (SchemeTree-F.Rel ins outs) e h = absurd (cc)
 
-constant_at : (c : ℕ) (t : SchemeTree) (z : SchemeTree-F SchemeTree) → out-SchemeTree t ≡ z → is_constant c z ≡ true → t ≡ tree.Named c []
+pub constant_at : (c : ℕ) (t : SchemeTree) (z : SchemeTree-F SchemeTree) → out-SchemeTree t ≡ z → is_constant c z ≡ true → t ≡ tree.Named c []
 constant_at c t (SchemeTree-F.Var j) e h = absurd (cc)
 constant_at c t (SchemeTree-F.Named d []) e h = opened t (SchemeTree-F.Named d []) e ∙ rolls-Named d [] ∙ ap (λ k. tree.Named k []) (sym (eqb-true c d h))
 constant_at c t (SchemeTree-F.Named d (u ∷ us)) e h = absurd (cc)
 constant_at c t (SchemeTree-F.Tuple ts) e h = absurd (cc)
 constant_at c t (SchemeTree-F.Rel ins outs) e h = absurd (cc)
 
-list_at : (t : SchemeTree) (z : SchemeTree-F SchemeTree) → out-SchemeTree t ≡ z → is_whole LIST 1 z ≡ true → t ≡ list a
+pub list_at : (t : SchemeTree) (z : SchemeTree-F SchemeTree) → out-SchemeTree t ≡ z → is_whole LIST 1 z ≡ true → t ≡ list a
 list_at t (SchemeTree-F.Var j) e h = absurd (cc)
 list_at t (SchemeTree-F.Named d []) e h = absurd (let two = both (eqb LIST d && eqb 1 0) (are_vars 0 []) h in let one = both (eqb LIST d) (eqb 1 0) two.first in cc (one.second))
 list_at t (SchemeTree-F.Named d (u ∷ [])) e h =
@@ -93,7 +93,7 @@ known_so names known r h =
     declared_so known.1 known.2 known.3 r.scheme (both (in_prelude names r.«module» && is_name names known.0 r.name) (is_declared known.1 known.2 known.3 r.scheme) h).second
 
 -- what comes first passes the test of its place
-first_so : {A B : Type 0} (fits : A → B → Bool) (P : A → B → Type 0) → ((k : A) (x : B) → fits k x ≡ true → P k x)
+pub first_so : {A B : Type 0} (fits : A → B → Bool) (P : A → B → Type 0) → ((k : A) (x : B) → fits k x ≡ true → P k x)
     → (ks : List A) (xs : List B) (n : ℕ) (k : A) → begins fits ks xs ≡ true → slice_get ks n ≡ Some k → IsSomeAnd (slice_get xs n) (P k)
 first_so fits P each [] xs n k h e = absurd (cc)
 first_so fits P each (j ∷ ks) [] n k h e = absurd (cc)

@@ -93,7 +93,7 @@ module _ (meanings : Meanings) (stand : (c : ℕ) → c < 8 → meanings c ≡ N
   outputs-stand VectorNth = one a a-stands
   outputs-stand _ = one int int-stands
 
-  row-stands : (row : Row) → written meanings (type_of row) ≡ type_of row
+  pub row-stands : (row : Row) → written meanings (type_of row) ≡ type_of row
   row-stands row =
       fold-Rel SchemeTree (written_at meanings) (inputs_of row) (outputs_of row)
       ∙ ap (λ x. tree.Rel x (map (written meanings) (outputs_of row))) (inputs-stand row) ∙ ap (tree.Rel (inputs_of row)) (outputs-stand row)
