@@ -40,7 +40,7 @@ fn print_goal(page: &mut Page<'_>, goal: &Goal) -> Result<(), Memory>
         }
         Goal::Let(pattern, exp) => {
             page.word(Key::KLet)?;
-            print_pattern(page, pattern, Seat::Free)?;
+            print_pattern(page, pattern.get(), Seat::Free)?;
             page.sign(Mark::Equals)?;
             print_exp(page, exp, Seat::Free)
         }

@@ -232,7 +232,7 @@ fn brackets_of_patterns(rt: HostRuntime) -> Result<(), Fail> {
 
 fn a_match(alloc: Global) -> Result<Goal, AllocError> {
     let pair = Pattern::Tuple(names_pattern(alloc)?);
-    Ok(Goal::Let(pair, Exp::Lit(Lit::Int(-1_073_741_824))))
+    Ok(Goal::Let(Boxed::new(alloc, pair)?, Exp::Lit(Lit::Int(-1_073_741_824))))
 }
 
 fn a_negation(alloc: Global) -> Result<Goal, AllocError> {

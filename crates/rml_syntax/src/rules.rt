@@ -55,7 +55,8 @@ pub enum Goal {
     /// What is called, its arguments and the patterns of its results. An absent list is the empty one.
     Call(Long, Items<Exp>, Items<Pattern>),
     Equal(Long, Exp),
-    Let(Pattern, Exp),
+    /// The pattern stands by itself, so that a goal is no larger than a call.
+    Let(Boxed<Pattern>, Exp),
     Not(Boxed<Goal>),
     /// Goals in brackets, also one goal in brackets.
     All(Items<Goal>),

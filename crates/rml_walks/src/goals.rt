@@ -55,7 +55,7 @@ fn goal(world: &World, tree: &Goal, walk: &mut Walk) -> Result<(), Memory>
             call(world, *long, arguments.as_slice(), results.as_slice(), walk)
         }
         Goal::Equal(long, value) => equal(world, *long, value, walk),
-        Goal::Let(bound, value) => binding(world, bound, value, walk),
+        Goal::Let(bound, value) => binding(world, bound.get(), value, walk),
         Goal::Not(inner) => {
             walk.enter(world)?;
             goal(world, inner.get(), walk)?;

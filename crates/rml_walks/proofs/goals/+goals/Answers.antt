@@ -16,5 +16,5 @@ pub goal-returns-in_ok-goal-in-Not : goal.goal-returns-in_ok-goal-in-Not
 goal-returns-in_ok-goal-in-Not t c =
     rw c.in-Not.is
     (run_not c.args.world.now (goal_steps c.in-Not.inner) c.args.walk.now c.enter.new.self c.goal.new.walk c.leave.new.self
-    c.in_ok-enter-in-Not.ensures (c.in_ok-goal-in-Not.ensures ∙ ap (λ g. run c.args.world.now c.enter.new.self (goal_steps g)) c.get.ensures) c.leave.ensures
+    c.in_ok-enter-in-Not.ensures (c.in_ok-goal-in-Not.ensures ∙ ap (λ g. run c.args.world.now c.enter.new.self (goal_steps g)) c.get-in-Not.ensures) c.leave.ensures
     ∙ ap (λ s. run c.args.world.now c.args.walk.now s) (sym (ap goal_steps (sym (rolls-Not c.in-Not.inner)) ∙ fold-roll-Goal (List Step) goal_at (Goal-F.Not c.in-Not.inner))))
