@@ -4,12 +4,12 @@ use Rattle.rml_syntax.specs.declared.token.Spot.{Spot}
 use Rattle.rml_syntax.specs.declared.rules.Rule.{Rule}
 use Rattle.rml_grammar.specs.declared.fault.Fault.{Fault}
 use Rattle.rml_grammar.specs.declared.fault.ParseKind.TheVariants as kind
-use Rattle.rml_parse.specs.declared.stop.Stop.{Stop}
-use Rattle.rml_parse.specs.declared.stop.Stop.TheVariants as stop
-use Rattle.rml_parse.specs.Mirrors.{Fails}
+use Rattle.rml_phrases.specs.declared.stop.Stop.{Stop}
+use Rattle.rml_phrases.specs.declared.stop.Stop.TheVariants as stop
+use Rattle.rml_phrases.specs.Mirrors.{Fails}
 use Rattle.rml_grammar.specs.Reading.{◌>>=◌, refused}
 use Rattle.rml_grammar.specs.Texts.{clause_next, clause_at, clauses_at}
-use Rattle.rml_parse.proofs.Loops.{with_front, no-front, front-more}
+use Rattle.rml_phrases.proofs.Callers.{with_front, no-front, front-more}
 
 module _ (n : ℕ) where
   none-at : (k : ℕ) (us : List Spot) → clause_next us ≡ None → clauses_at n k us ≡ Ok ([], us)

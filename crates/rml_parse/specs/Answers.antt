@@ -5,8 +5,8 @@ use Rattle.rml_base.specs.declared.place.Place.{Place}
 use Rattle.rml_syntax.specs.declared.token.Spot.{Spot}
 use Rattle.rml_syntax.specs.declared.texts.Text.{Text}
 use Rattle.rml_grammar.specs.declared.fault.Fault.{Fault}
-use Rattle.rml_parse.specs.declared.stop.Stop.{Stop}
-use Rattle.rml_parse.specs.declared.stop.Stop.TheVariants as stop
+use Rattle.rml_phrases.specs.declared.stop.Stop.{Stop}
+use Rattle.rml_phrases.specs.declared.stop.Stop.TheVariants as stop
 use Rattle.rml_parse.specs.declared.answer.ParseErr.{ParseErr}
 use Rattle.rml_parse.specs.declared.answer.ParseErr.TheVariants as error
 

@@ -12,10 +12,10 @@ ghost use Rattle.rml_parse.specs.Answers.{PlacedAs, Says, place_left};
 ghost use Rattle.rml_parse.specs.Faults.{IsFault, IsTree, PassesLimit, StopsAt};
 ghost use Rattle.rml_parse.specs.declared.answer.ParseErr.TheVariants as error;
 
-use crate::stop::Stop;
 use crate::texts::whole;
 use rml_base::{Place, limits};
 use rml_grammar::ParseKind;
+use rml_phrases::stop::Stop;
 use rml_syntax::{Spot, Text};
 use std::alloc::Global;
 

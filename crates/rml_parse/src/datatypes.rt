@@ -6,13 +6,13 @@ ghost use Rattle.rml_syntax.specs.declared.token.Mark.TheVariants as mark;
 ghost use Rattle.rml_grammar.specs.Reading.{repeated};
 ghost use Rattle.rml_grammar.specs.Tokens.{after, after_word};
 ghost use Rattle.rml_grammar.specs.Texts as grammar;
-ghost use Rattle.rml_parse.specs.Mirrors.{Mirrors};
+ghost use Rattle.rml_phrases.specs.Mirrors.{Mirrors};
 
-use crate::lists::{alone, joined};
-use crate::spots::{eat, eat_word, front, name};
-use crate::stop::{Stop, unexpected};
-use crate::types::{factor, more_factors};
 use rml_grammar::Front;
+use rml_phrases::lists::{alone, joined, led_by};
+use rml_phrases::spots::{eat, eat_word, front, name};
+use rml_phrases::stop::{Stop, unexpected};
+use rml_phrases::types::{factor, more_factors};
 use rml_syntax::{ConBind, DataBind, Decl, Key, Mark, Spot, TypeExp, TypeHead};
 use sqlite_items::Items;
 use std::alloc::Global;
@@ -24,19 +24,15 @@ pub(crate) fn datas(alloc: Global, spots: &[Spot], levels: u32) -> Result<(Decl,
 {
     let (first, rest) = datatype(alloc, spots, levels)?;
     let (more, rest) = more_datas(alloc, rest, levels)?;
-    Ok((Decl::Datatype(joined(alloc, first, more)?), rest))
+    Ok((Decl::Datatype(joined(first, more)?), rest))
 }
 
 /// `{and data}`
-fn more_datas(
-    alloc: Global,
-    spots: &[Spot],
-    levels: u32,
-) -> Result<(Items<DataBind>, &[Spot]), Stop>
-    ensures mirrors { Mirrors (λ x. (x.0, x.1.now)) result (repeated (after_word key.KAnd) (grammar.data_at levels) spots.now) }
+fn more_datas(alloc: Global, spots: &[Spot], levels: u32) -> Result<(Vec<DataBind>, &[Spot]), Stop>
+    ensures mirrors { Mirrors (λ x. (x.0.items, x.1.now)) result (repeated (after_word key.KAnd) (grammar.data_at levels) spots.now) }
     ensures shorter { IfOk result (λ x. length x.1.now ≤ length spots.now) }
 {
-    let mut items = Items::new(alloc);
+    let mut items = Vec::new(alloc);
     let mut rest = spots;
     while let Some(next) = eat_word(rest, Key::KAnd) {
         let (item, after) = datatype(alloc, next, levels)?;
@@ -57,7 +53,7 @@ fn datatype(alloc: Global, spots: &[Spot], levels: u32) -> Result<(DataBind, &[S
     };
     let (first, rest) = constructor(alloc, rest, levels)?;
     let (more, rest) = more_constructors(alloc, rest, levels)?;
-    let cons = joined(alloc, first, more)?;
+    let cons = joined(first, more)?;
     Ok((DataBind { head, cons }, rest))
 }
 
@@ -66,11 +62,11 @@ fn more_constructors(
     alloc: Global,
     spots: &[Spot],
     levels: u32,
-) -> Result<(Items<ConBind>, &[Spot]), Stop>
-    ensures mirrors { Mirrors (λ x. (x.0, x.1.now)) result (repeated (after mark.Bar) (grammar.con_at levels) spots.now) }
+) -> Result<(Vec<ConBind>, &[Spot]), Stop>
+    ensures mirrors { Mirrors (λ x. (x.0.items, x.1.now)) result (repeated (after mark.Bar) (grammar.con_at levels) spots.now) }
     ensures shorter { IfOk result (λ x. length x.1.now ≤ length spots.now) }
 {
-    let mut items = Items::new(alloc);
+    let mut items = Vec::new(alloc);
     let mut rest = spots;
     while let Some(next) = eat(rest, Mark::Bar) {
         let (item, after) = constructor(alloc, next, levels)?;
@@ -100,7 +96,7 @@ fn parts(alloc: Global, spots: &[Spot], levels: u32) -> Result<(Items<TypeExp>, 
     };
     let (first, rest) = factor(alloc, rest, levels)?;
     let (more, rest) = more_factors(alloc, rest, levels)?;
-    Ok((joined(alloc, first, more)?, rest))
+    Ok((joined(first, more)?, rest))
 }
 
 /// The name that a declaration of types declares, and the type variables before it.
@@ -141,16 +137,16 @@ fn type_vars(alloc: Global, spots: &[Spot]) -> Result<(Items<u32>, &[Spot]), Sto
     let Some(rest) = eat(rest, Mark::CloseRound) else {
         return Err(unexpected(rest));
     };
-    let others = joined(alloc, second, more)?;
-    Ok((joined(alloc, first, others)?, rest))
+    let others = led_by(second, more)?;
+    Ok((joined(first, others)?, rest))
 }
 
 /// `{, tyvar}`
-fn more_type_vars(alloc: Global, spots: &[Spot]) -> Result<(Items<u32>, &[Spot]), Stop>
-    ensures mirrors { Mirrors (λ x. (x.0, x.1.now)) result (repeated (after mark.Comma) grammar.tyvar_at spots.now) }
+fn more_type_vars(alloc: Global, spots: &[Spot]) -> Result<(Vec<u32>, &[Spot]), Stop>
+    ensures mirrors { Mirrors (λ x. (x.0.items, x.1.now)) result (repeated (after mark.Comma) grammar.tyvar_at spots.now) }
     ensures shorter { IfOk result (λ x. length x.1.now ≤ length spots.now) }
 {
-    let mut items = Items::new(alloc);
+    let mut items = Vec::new(alloc);
     let mut rest = spots;
     while let Some(next) = eat(rest, Mark::Comma) {
         let (item, after) = type_var(next)?;

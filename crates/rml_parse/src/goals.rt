@@ -5,14 +5,14 @@ ghost use Rattle.rml_syntax.specs.declared.token.Mark.TheVariants as mark;
 ghost use Rattle.rml_grammar.specs.Tokens.{after};
 ghost use Rattle.rml_grammar.specs.Reading.{repeated};
 ghost use Rattle.rml_grammar.specs.Goals as grammar;
-ghost use Rattle.rml_parse.specs.Mirrors.{Mirrors};
+ghost use Rattle.rml_phrases.specs.Mirrors.{Mirrors};
 
-use crate::expressions::{arguments, exp};
-use crate::lists::joined;
-use crate::patterns::{pattern, results};
-use crate::spots::{eat, front, long};
-use crate::stop::{Stop, inward, unexpected};
 use rml_grammar::Front;
+use rml_phrases::expressions::{arguments, exp};
+use rml_phrases::lists::joined;
+use rml_phrases::patterns::{pattern, results};
+use rml_phrases::spots::{eat, front, long};
+use rml_phrases::stop::{Stop, inward, unexpected};
 use rml_syntax::{Goal, Long, Mark, Pattern, Spot};
 use sqlite_items::{Boxed, Items};
 use std::alloc::Global;
@@ -30,16 +30,16 @@ pub(crate) fn goals(
 {
     let (first, rest) = goal(alloc, spots, levels)?;
     let (more, rest) = more_goals(alloc, rest, levels)?;
-    Ok((joined(alloc, first, more)?, rest))
+    Ok((joined(first, more)?, rest))
 }
 
 /// `{& goal}`
 #[cycle(goals)]
-fn more_goals(alloc: Global, spots: &[Spot], levels: u32) -> Result<(Items<Goal>, &[Spot]), Stop>
-    ensures mirrors { Mirrors (λ x. (x.0, x.1.now)) result (repeated (after mark.Amp) (grammar.goal_at levels) spots.now) }
+fn more_goals(alloc: Global, spots: &[Spot], levels: u32) -> Result<(Vec<Goal>, &[Spot]), Stop>
+    ensures mirrors { Mirrors (λ x. (x.0.items, x.1.now)) result (repeated (after mark.Amp) (grammar.goal_at levels) spots.now) }
     ensures shorter { IfOk result (λ x. length x.1.now ≤ length spots.now) }
 {
-    let mut items = Items::new(alloc);
+    let mut items = Vec::new(alloc);
     let mut rest = spots;
     while let Some(next) = eat(rest, Mark::Amp) {
         let (item, after) = goal(alloc, next, levels)?;
@@ -96,7 +96,7 @@ fn matching(alloc: Global, spots: &[Spot], levels: u32) -> Result<(Goal, &[Spot]
         return Err(unexpected(rest));
     };
     let (right, rest) = exp(alloc, rest, levels)?;
-    Ok((Goal::Let(left, right), rest))
+    Ok((Goal::Let(Boxed::new(alloc, left)?, right), rest))
 }
 
 /// What a name begins: an equation, or a call.

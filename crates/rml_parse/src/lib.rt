@@ -5,18 +5,10 @@
 mod answer;
 mod datatypes;
 mod declarations;
-mod expressions;
 mod goals;
-mod lists;
-mod patterns;
+mod openings;
 mod rules;
-mod spots;
-mod stop;
 mod texts;
-mod types;
 
 pub use answer::{ParseErr, parse};
 pub use rml_grammar::ParseKind;
-
-#[cfg(test)]
-mod tests;

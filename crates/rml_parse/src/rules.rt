@@ -4,16 +4,17 @@ ghost use Rattle.std.specs.Prelude.{◌≡◌, ◌<◌, ◌≤◌, ◌-◌, IfOk
 ghost use Rattle.rml_base.specs.declared.limits.TheConstants.{BYTES};
 ghost use Rattle.rml_grammar.specs.Texts as grammar;
 ghost use Rattle.rml_grammar.specs.Trees.{rule_of};
-ghost use Rattle.rml_parse.specs.Mirrors.{Mirrors};
+ghost use Rattle.rml_phrases.specs.Mirrors.{Mirrors};
 
-use crate::expressions::results;
 use crate::goals::goals;
-use crate::lists::joined;
-use crate::patterns::arguments;
-use crate::spots::{at_rule, eat, eat_word, front, name, opening};
-use crate::stop::{Stop, at, unexpected};
+use crate::openings::{at_rule, opening};
 use rml_base::Place;
 use rml_grammar::{Front, Opening, ParseKind};
+use rml_phrases::expressions::results;
+use rml_phrases::lists::joined;
+use rml_phrases::patterns::arguments;
+use rml_phrases::spots::{eat, eat_word, front, name};
+use rml_phrases::stop::{Stop, at, unexpected};
 use rml_syntax::{Exp, Goal, Key, Mark, Pattern, Rule, Spot};
 use sqlite_items::Items;
 use std::alloc::Global;
@@ -43,7 +44,7 @@ pub(crate) fn rules(
     let Some(rest) = eat_word(rest, Key::KEnd) else {
         return Err(unexpected(rest));
     };
-    Ok((joined(alloc, first, more)?, rest))
+    Ok((joined(first, more)?, rest))
 }
 
 /// `{clause}`, at most so many.
@@ -52,12 +53,12 @@ fn more_rules(
     spots: &[Spot],
     levels: u32,
     most: u32,
-) -> Result<(Items<Rule>, &[Spot]), Stop>
+) -> Result<(Vec<Rule>, &[Spot]), Stop>
     requires { length spots.now ≤ BYTES }
-    ensures mirrors { Mirrors (λ x. (x.0, x.1.now)) result (grammar.clauses_at levels most spots.now) }
+    ensures mirrors { Mirrors (λ x. (x.0.items, x.1.now)) result (grammar.clauses_at levels most spots.now) }
     ensures shorter { IfOk result (λ x. length x.1.now ≤ length spots.now) }
 {
-    let mut items = Items::new(alloc);
+    let mut items = Vec::new(alloc);
     let mut left = most;
     let mut rest = spots;
     while let Some(next) = at_rule(rest) {

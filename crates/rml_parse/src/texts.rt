@@ -4,13 +4,14 @@ ghost use Rattle.std.specs.Prelude.{◌≡◌, ◌<◌, ◌≤◌, IfOk, length}
 ghost use Rattle.rml_base.specs.declared.limits.TheConstants.{BYTES};
 ghost use Rattle.rml_grammar.specs.Reading.{repeated};
 ghost use Rattle.rml_grammar.specs.Texts as grammar;
-ghost use Rattle.rml_parse.specs.Mirrors.{Mirrors};
+ghost use Rattle.rml_phrases.specs.Mirrors.{Mirrors};
 
 use crate::declarations::{decls, specs};
-use crate::spots::{at_uses, eat, eat_word, file, name, opening};
-use crate::stop::{Stop, unexpected};
+use crate::openings::{at_uses, file, opening};
 use rml_base::Place;
 use rml_grammar::Opening;
+use rml_phrases::spots::{eat, eat_word, name};
+use rml_phrases::stop::{Stop, unexpected};
 use rml_syntax::{Decl, Key, Mark, Spot, Text, Uses};
 use sqlite_items::Items;
 use std::alloc::Global;

@@ -226,12 +226,58 @@ fn names_are_numbered_together(rt: HostRuntime) -> Result<(), Fail> {
     Ok(())
 }
 
+/// Whether what is printed of a text prints again the same.
+fn prints_again(alloc: Global, text: &str) -> Result<bool, Refusal> {
+    let once = printed(alloc, text.as_bytes())?;
+    let again = printed(alloc, &once)?;
+    Ok(once.as_slice() == again.as_slice())
+}
+
 #[test]
 fn what_is_printed_reads_back(rt: HostRuntime) -> Result<(), Fail> {
     for text in rows::ALL {
-        let once = printed(rt.alloc(), text.as_bytes())?;
-        let again = printed(rt.alloc(), &once)?;
-        assert_eq!(rt; once.as_slice(), again.as_slice(), "of {text}");
+        assert!(rt; prints_again(rt.alloc(), text)?, "of {text}");
+    }
+    Ok(())
+}
+
+/// A text in which a bracket opens 200 times, each with what stands before it and behind it.
+fn deep(
+    alloc: Global,
+    front: &str,
+    open: &str,
+    middle: &str,
+    tail: &str,
+) -> Result<String, AllocError> {
+    let mut text = String::from_str(alloc, front)?;
+    repeat(&mut text, open, 200)?;
+    text.push_str(middle)?;
+    repeat(&mut text, if open == "[" { "]" } else { ")" }, 200)?;
+    text.push_str(tail)?;
+    Ok(text)
+}
+
+/// Lists, goals under `not`, relation types, and patterns under `as`: read, printed, and let go.
+#[test]
+fn the_deepest_trees(rt: HostRuntime) -> Result<(), Fail> {
+    for (front, open, middle, tail) in [
+        ("module m:\nend\nval x = ", "[", "", "\n"),
+        (
+            "module m:\nend\nrelation f =\n  rule ",
+            "not (",
+            "x = 1",
+            "\n  -- f\nend\n",
+        ),
+        ("module m:\n  type t = ", "(a => ", "a", "\nend\n"),
+        (
+            "module m:\nend\nrelation f =\n  axiom f",
+            "(x as ",
+            "y",
+            "\nend\n",
+        ),
+    ] {
+        let text = deep(rt.alloc(), front, open, middle, tail)?;
+        assert!(rt; prints_again(rt.alloc(), text.as_str())?, "of {text}");
     }
     Ok(())
 }

@@ -3,11 +3,11 @@ use Rattle.rml_syntax.specs.declared.token.Mark.TheVariants as mark
 use Rattle.rml_grammar.specs.Tokens.{after}
 use Rattle.rml_grammar.specs.Texts.{tyvar_at}
 use Rattle.std.proofs.lemmas.Result.{err_from_is_err_and}
-use Rattle.rml_parse.proofs.Loops.{goes-on, ended, fails}
+use Rattle.rml_phrases.proofs.Callers.{goes-on, ended, fails}
 use Rattle.rml_parse.proofs.datatypes.more_type_vars.Goals as goal
 
 pub loop-next-preserved : goal.loop-next-preserved
-loop-next-preserved c = rw c.in_ok-push.ensures.ok (goes-on (after mark.Comma) tyvar_at _ _ _ _ _ _ c.loop-next.invariant (sym c.in-Some.ensures.value) c.in_ok-item.ensures.mirrors (omega (arith, c.in_ok-item.ensures.shorter, c.in-Some.ensures.shorter)))
+loop-next-preserved c = rw c.in_ok-push.ensures.items (goes-on (after mark.Comma) tyvar_at _ _ _ _ _ _ c.loop-next.invariant (sym c.in-Some.ensures.value) c.in_ok-item.ensures.mirrors (omega (arith, c.in_ok-item.ensures.shorter, c.in-Some.ensures.shorter)))
 
 pub returns-clause-mirrors : goal.returns-clause-mirrors
 returns-clause-mirrors c = ended (after mark.Comma) tyvar_at _ _ _ c.loop-next.invariant (sym c.in_default.ensures.value)

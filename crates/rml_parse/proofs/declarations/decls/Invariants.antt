@@ -1,6 +1,6 @@
 use Rattle.std.proofs.Common.{length}
 use Rattle.rml_grammar.specs.Texts.{decl_next, decl_at}
-use Rattle.rml_parse.proofs.Loops.{SoFar}
+use Rattle.rml_phrases.proofs.Callers.{SoFar}
 use Rattle.rml_parse.proofs.declarations.decls.Given as goal
 
 abbrev pub invariant-loop-next : goal.invariant-loop-next

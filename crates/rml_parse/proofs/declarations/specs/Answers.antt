@@ -1,7 +1,7 @@
 use Rattle.std.proofs.Common.{sym, arith, refl}
 use Rattle.rml_grammar.specs.Texts.{spec_next, spec_at}
 use Rattle.std.proofs.lemmas.Result.{err_from_is_err_and}
-use Rattle.rml_parse.proofs.Loops.{goes-on, ended, fails-at}
+use Rattle.rml_phrases.proofs.Callers.{goes-on, ended, fails-at}
 use Rattle.rml_parse.proofs.declarations.specs.Goals as goal
 
 pub loop-next-preserved : goal.loop-next-preserved

@@ -4,7 +4,7 @@ use Rattle.rml_parse.proofs.Clauses.{clauses-go-on, clauses-ended, clauses-full,
 use Rattle.rml_parse.proofs.rules.more_rules.Goals as goal
 
 pub loop-next-preserved : goal.loop-next-preserved
-loop-next-preserved c = rw c.in_ok-push.ensures.ok (clauses-go-on c.args.levels c.args.most _ _ _ _ _ _ _ c.loop-next.invariant c.if-left-eq0.false (sym c.in-Some.ensures.value) c.in_ok-item.ensures.mirrors (omega (arith, c.in_ok-item.ensures.shorter, c.in-Some.ensures.shorter)))
+loop-next-preserved c = rw c.in_ok-push.ensures.items (clauses-go-on c.args.levels c.args.most _ _ _ _ _ _ _ c.loop-next.invariant c.if-left-eq0.false (sym c.in-Some.ensures.value) c.in_ok-item.ensures.mirrors (omega (arith, c.in_ok-item.ensures.shorter, c.in-Some.ensures.shorter)))
 
 pub returns-clause-mirrors : goal.returns-clause-mirrors
 returns-clause-mirrors c = clauses-ended c.args.levels c.args.most _ _ _ _ c.loop-next.invariant (sym c.in_default.ensures.value)

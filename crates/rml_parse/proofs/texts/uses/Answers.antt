@@ -1,7 +1,7 @@
 use Rattle.std.proofs.Common.{sym, arith, refl}
 use Rattle.rml_grammar.specs.Texts.{uses_next, uses_at}
 use Rattle.std.proofs.lemmas.Result.{err_from_is_err_and}
-use Rattle.rml_parse.proofs.Loops.{goes-on, ended, fails-at}
+use Rattle.rml_phrases.proofs.Callers.{goes-on, ended, fails-at}
 use Rattle.rml_parse.proofs.texts.uses.Goals as goal
 
 pub loop-next-preserved : goal.loop-next-preserved

@@ -1,6 +1,6 @@
 use Rattle.std.proofs.Common.{length}
 use Rattle.rml_grammar.specs.Texts.{uses_next, uses_at}
-use Rattle.rml_parse.proofs.Loops.{SoFar}
+use Rattle.rml_phrases.proofs.Callers.{SoFar}
 use Rattle.rml_parse.proofs.texts.uses.Given as goal
 
 abbrev pub invariant-loop-next : goal.invariant-loop-next
