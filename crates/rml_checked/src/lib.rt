@@ -13,6 +13,3 @@ mod size;
 mod typing;
 
 pub use checked::program_of;
-
-#[cfg(test)]
-mod tests;

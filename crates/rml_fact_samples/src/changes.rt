@@ -1,8 +1,8 @@
 //! Small changes to one good program, each with the fact that it breaks; and at the edge of a fact one that breaks none.
 
-use crate::program_of;
 use rml_base::{Bytes, Memory, Place};
 use rml_builtin::types::{BOOL, INT, LIST, OPTION, STRING};
+use rml_checked::program_of;
 use rml_resolved::{Callee, ConDef, Parts, RExp, RGoal, RPat, RRule, RelDef, TypeDef, ValDef};
 use rml_syntax::Lit;
 use rml_types::{Scheme, SchemeTree};
