@@ -1,0 +1,4 @@
+pub mod Callers
+pub mod Labels
+pub mod WrittenTypes
+pub mod Doubling
