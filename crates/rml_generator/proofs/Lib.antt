@@ -1,0 +1,13 @@
+pub mod Below
+pub mod Adding
+pub mod Turning
+pub mod Facts
+pub mod Making
+pub mod Scoping
+pub mod Owning
+pub mod PatternParts
+pub mod ExpressionParts
+pub mod GoalParts
+pub mod Pieces
+pub mod Holding
+pub mod Callers

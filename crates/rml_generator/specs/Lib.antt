@@ -1,0 +1,4 @@
+pub mod Entries
+pub mod Adds
+pub mod Scopes
+pub mod Sides
