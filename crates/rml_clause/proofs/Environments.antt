@@ -5,69 +5,10 @@ use Rattle.std.specs.Prelude.{◌==◌, ◌⊎◌, if◌then◌else◌}
 use Rattle.std.proofs.lemmas.Bool.{ne_eqb}
 use Rattle.rml_value.specs.declared.value.Value.{Value}
 use Rattle.rml_terms.specs.Env.{Env, bind, look}
+use Rattle.rml_terms.proofs.Callers.{Worth, worth_same, look_kept, look_new, look_other}
 use Rattle.rml_fol.specs.Relations.{bound_from}
 use Rattle.rml_clause.specs.Plain.{numbers_from}
 use Rattle.rml_clause.specs.Fresh.{IsNoneOf, AreFresh}
-
--- ---- one variable more
-
-kept_if : (t : Bool) (u w : Value) (o o' : Option Value) → (o ≡ Some w → o' ≡ Some w) → (if t then Some u else o) ≡ Some w → (if t then Some u else o') ≡ Some w
-kept_if true u w o o' each h = h
-kept_if false u w o o' each h = each h
-
-new_if : (t : Bool) (u w : Value) (o o' : Option Value) → (o ≡ None → o' ≡ Some w) → (if t then Some u else o) ≡ None → (if t then Some u else o') ≡ Some w
-new_if true u w o o' each h = absurd (cc)
-new_if false u w o o' each h = each h
-
-none_if : (t : Bool) (u : Value) (o o' : Option Value) → (o ≡ None → o' ≡ None) → (if t then Some u else o) ≡ None → (if t then Some u else o') ≡ None
-none_if true u o o' each h = h
-none_if false u o o' each h = each h
-
-taken_if : (t : Bool) (u : Value) → t ≡ true → (if t then Some u else None) ≡ Some u
-taken_if true u e = refl
-taken_if false u e = absurd (cc)
-
-taken_first : (t : Bool) (u : Value) (o : Option Value) → t ≡ true → (if t then Some u else o) ≡ Some u
-taken_first true u o e = refl
-taken_first false u o e = absurd (cc)
-
-left_if : (t : Bool) (u : Value) → t ≡ false → (if t then Some u else None) ≡ None
-left_if true u e = absurd (cc)
-left_if false u e = refl
-
--- what stood for something stands for it still
-pub look_kept : (x y : ℕ) (v w : Value) (env : Env) → look x env ≡ Some w → look x (bind y v env) ≡ Some w
-look_kept x y v w [] h = absurd (cc)
-look_kept x y v w (b ∷ env) h = kept_if (x == b.var) b.value w (look x env) (look x (bind y v env)) (look_kept x y v w env) h
-
--- a variable that stood for nothing stands for what is bound to it
-pub look_new : (x : ℕ) (v : Value) (env : Env) → look x env ≡ None → look x (bind x v env) ≡ Some v
-look_new x v [] h = taken_if (x == x) v (eq-eqb x x refl)
-look_new x v (b ∷ env) h = new_if (x == b.var) b.value v (look x env) (look x (bind x v env)) (look_new x v env) h
-
--- and others still stand for nothing
-pub look_other : (x y : ℕ) (v : Value) (env : Env) → x ≢ y → look x env ≡ None → look x (bind y v env) ≡ None
-look_other x y v [] d h = left_if (x == y) v (ne_eqb x y d)
-look_other x y v (b ∷ env) d h = none_if (x == b.var) b.value (look x env) (look x (bind y v env)) (look_other x y v env d) h
-
--- ---- values where there are values
-
--- where the first is there, the second is the same
-abbrev pub Worth : {A : Type 0} → Option A → Option A → Type 0
-Worth None o = Unit {0}
-Worth (Some v) o = o ≡ Some v
-
-pub worth_same : {A : Type 0} (o o' : Option A) → o ≡ o' → Worth o o'
-worth_same None o' e = tt
-worth_same (Some v) o' e = sym e
-
-pub worth_from : {A : Type 0} (o o' : Option A) → ((v : A) → o ≡ Some v → o' ≡ Some v) → Worth o o'
-worth_from None o' each = tt
-worth_from (Some v) o' each = each v refl
-
-pub worth_at : {A : Type 0} (o o' : Option A) (v : A) → Worth o o' → o ≡ Some v → o' ≡ Some v
-worth_at None o' v h e = absurd (cc)
-worth_at (Some w) o' v h e = h ∙ e
 
 -- what stood for something before stands for it behind
 pub record Keeps (env next : Env) : Type 0 where
@@ -201,6 +142,10 @@ stands_as params vars xs ys env new e h = subst (λ (zs : List ℕ). Stands para
 behind_if : (t : Bool) (u : Value) (o p : Option Value) → t ≡ false → o ≡ p → (if t then Some u else o) ≡ p
 behind_if true u o p e h = absurd (cc)
 behind_if false u o p e h = h
+
+taken_first : (t : Bool) (u : Value) (o : Option Value) → t ≡ true → (if t then Some u else o) ≡ Some u
+taken_first true u o e = refl
+taken_first false u o e = absurd (cc)
 
 stand_behind : (y z n : ℕ) (u : Value) (vs : List Value) (env : Env) → y < z → StandFor (numbers_from z n) vs env → StandFor (numbers_from z n) vs (record { var = y; value = u } ∷ env)
 stand_behind y z zero u [] env less h = tt

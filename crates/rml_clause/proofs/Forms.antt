@@ -1,22 +1,29 @@
--- What holds of each statement that a rule in plain form has before its `give`. From this: where its blocks end, and what they give.
-use Rattle.std.proofs.Common.{◌≡◌, ℕ, suc, Bool, true, eq-eqb, List, [], ◌∷◌, ◌++◌, map, length, refl, sym, ap, ◌∙◌}
-use Rattle.std.specs.Prelude.{◌&&◌, Option, Some}
+-- What holds of each statement that a rule in plain form has before its `give`. From this: where its blocks end, what they give, and that
+-- what is to spare pays for its frames.
+use Rattle.std.proofs.Common.{◌≡◌, ℕ, suc, ◌+◌, ◌-◌, ◌≤◌, Bool, true, eq-eqb, List, [], ◌∷◌, ◌++◌, map, length, refl, sym, ap, ◌∙◌, arith}
+use Rattle.std.specs.Prelude.{◌&&◌, nat_le, Option, Some}
+use Rattle.std.proofs.lemmas.Bool.{le-leb}
 use Rattle.rml_resolved.specs.declared.trees.RPat.{RPat}
 use Rattle.rml_resolved.specs.declared.trees.RExp.{RExp}
 use Rattle.rml_resolved.specs.declared.trees.RGoal.{RGoal}
 use Rattle.rml_resolved.specs.declared.tables.RRule.{RRule}
 use Rattle.rml_fol.specs.declared.terms.Pattern.{Pattern}
-use Rattle.rml_fol.specs.declared.terms.Expression.{Expression}
+use Rattle.rml_fol.specs.declared.terms.Expression.{Expression, out-Expression}
 use Rattle.rml_fol.specs.declared.statements.Callee.{Callee}
 use Rattle.rml_fol.specs.declared.statements.Stmt.{Stmt, fold-roll-Stmt}
 use Rattle.rml_fol.specs.declared.statements.Stmt.TheVariants as stmt
 use Rattle.rml_fol.specs.declared.statements.Stmt.TheVariants.{rolls-Match, rolls-Set, rolls-Call, rolls-Builtin, rolls-Equal, rolls-Not, rolls-Or, rolls-Give}
 use Rattle.rml_fol.specs.declared.statements.Stmt.TheOpen.{Stmt-F}
 use Rattle.rml_fol.specs.declared.statements.Alternative.{Alternative, out-Alternative, fold-Alternative, fold-roll-Alternative, roll-out-Alternative}
-use Rattle.rml_fol.specs.Ends.{Standing, goes_on, going_on, ending, block_ends, standing, standing_at, alternative_ends_at, case_ends_at}
+use Rattle.rml_fol.specs.Ends.{Standing, goes_on, answers, going_on, ending, block_ends, goal_ends, standing, standing_at, alternative_ends_at, case_ends_at}
 use Rattle.rml_fol.specs.Gives.{Gives, as_wanted, all_give, gives, gives_at, alternative_gives_at, case_gives_at}
 use Rattle.rml_fol.specs.Fits.{every}
+use Rattle.rml_fol.specs.Patterns.{binds}
+use Rattle.rml_fol.specs.Weights.{match_weight, equal_weight, call_weight, not_weight}
+use Rattle.rml_fol.specs.Paid as pays
+use Rattle.rml_fol.specs.Paid.{frame_cost, entry_spares, set_spares, built_in_spares, Paid, nothing, paid, paid_at, alternative_paid_at, case_paid_at}
 use Rattle.rml_clause.specs.Plain.{IsIn, AreIn, AreMatched, IsPremise, ArePremises, IsRule, AreRules}
+use Rattle.rml_clause.proofs.Rows.{joined}
 
 -- ---- each statement
 
@@ -85,10 +92,12 @@ ends-behind : (xs ys : List Stmt) → EachOf GoesOn xs → block_ends (map stand
 ends-behind xs ys EachOf.none = refl
 ends-behind xs ys (EachOf.more s ss e es) = ap (λ (z : Standing). block_ends (z ∷ map standing (ss ++ ys))) e ∙ ends-behind ss ys es
 
-give-ends : (xs : List ℕ) → block_ends (map standing (stmt.Give xs ∷ [])) ≡ true
-give-ends xs =
-    ap (λ (z : Standing). block_ends (z ∷ []))
-    (ap standing (sym (rolls-Give xs)) ∙ fold-roll-Stmt Standing Bool Bool standing_at alternative_ends_at case_ends_at (Stmt-F.Give xs))
+goal-ends-behind : (xs ys : List Stmt) → EachOf GoesOn xs → goal_ends (map standing (xs ++ ys)) ≡ goal_ends (map standing ys)
+goal-ends-behind xs ys EachOf.none = refl
+goal-ends-behind xs ys (EachOf.more s ss e es) = ap (λ (z : Standing). goal_ends (z ∷ map standing (ss ++ ys))) e ∙ goal-ends-behind ss ys es
+
+give-answers : (xs : List ℕ) → standing (stmt.Give xs) ≡ answers
+give-answers xs = ap standing (sym (rolls-Give xs)) ∙ fold-roll-Stmt Standing Bool Bool standing_at alternative_ends_at case_ends_at (Stmt-F.Give xs)
 
 kinds-go-on : OfKinds GoesOn
 kinds-go-on = record {
@@ -100,7 +109,7 @@ kinds-go-on = record {
   nots = λ block h.
       ap standing (sym (rolls-Not (block ++ stmt.Give [] ∷ [])))
       ∙ fold-roll-Stmt Standing Bool Bool standing_at alternative_ends_at case_ends_at (Stmt-F.Not (block ++ stmt.Give [] ∷ []))
-      ∙ ap going_on (ends-behind block (stmt.Give [] ∷ []) h ∙ give-ends []);
+      ∙ ap going_on (goal-ends-behind block (stmt.Give [] ∷ []) h ∙ ap (λ (z : Standing). goal_ends (z ∷ [])) (give-answers []));
 }
 
 module _ (names : List (List ℕ)) (params : ℕ) where
@@ -110,7 +119,8 @@ module _ (names : List (List ℕ)) (params : ℕ) where
 
   rule-ends : {r : RRule} {block : List Stmt} → IsRule names params r block → block_ends (map standing block) ≡ true
   rule-ends i =
-      ap (λ b. block_ends (map standing b)) i.is ∙ ends-behind ((i.head ++ i.premises) ++ i.sets) (stmt.Give i.results ∷ []) (before-give GoesOn kinds-go-on i) ∙ give-ends i.results
+      ap (λ b. block_ends (map standing b)) i.is ∙ ends-behind ((i.head ++ i.premises) ++ i.sets) (stmt.Give i.results ∷ []) (before-give GoesOn kinds-go-on i)
+      ∙ ap (λ (z : Standing). block_ends (z ∷ [])) (give-answers i.results)
 
   rules-end : {rules : List RRule} {alternatives : List Alternative} → AreRules names params rules alternatives → every (map alternative_ends alternatives) ≡ true
   rules-end AreRules.none = refl
@@ -156,6 +166,88 @@ kinds-give-nothing = record {
       (ap gives (sym (rolls-Not (block ++ stmt.Give [] ∷ []))) ∙ fold-roll-Stmt Gives Gives Gives gives_at alternative_gives_at case_gives_at (Stmt-F.Not (block ++ stmt.Give [] ∷ [])))
       ∙ gives-behind block (stmt.Give [] ∷ []) (Some 0) h ∙ give-gives [] (Some 0) refl;
 }
+
+-- ---- what is to spare
+
+abbrev alternative_paid : Alternative → pays.Block
+alternative_paid = fold-Alternative pays.Action pays.Block pays.Block paid_at alternative_paid_at case_paid_at
+
+-- with whatever is to spare, where what follows is paid with whatever is
+abbrev IsPaid : Stmt → Type 0
+IsPaid s = (given next : Paid) → ((c : ℕ) → next c ≡ true) → (c : ℕ) → paid s given next c ≡ true
+
+paid-behind : (xs ys : List Stmt) (given : Paid) → EachOf IsPaid xs → ((c : ℕ) → pays.in_turn (map paid ys) given c ≡ true) → (c : ℕ) → pays.in_turn (map paid (xs ++ ys)) given c ≡ true
+paid-behind xs ys given EachOf.none h c = h c
+paid-behind xs ys given (EachOf.more s ss e es) h c = e given (pays.in_turn (map paid (ss ++ ys)) given) (paid-behind ss ys given es h) c
+
+give-paid : (xs : List ℕ) (given : Paid) → ((c : ℕ) → given c ≡ true) → (c : ℕ) → pays.in_turn (map paid (stmt.Give xs ∷ [])) given c ≡ true
+give-paid xs given h c =
+    ap (λ (a : pays.Action). a given (pays.in_turn [] given) c)
+    (ap paid (sym (rolls-Give xs)) ∙ fold-roll-Stmt pays.Action pays.Block pays.Block paid_at alternative_paid_at case_paid_at (Stmt-F.Give xs))
+    ∙ h c
+
+kinds-paid : OfKinds IsPaid
+kinds-paid = record {
+  matches = λ x p given next h c.
+      ap (λ (a : pays.Action). a given next c)
+      (ap paid (sym (rolls-Match x p)) ∙ fold-roll-Stmt pays.Action pays.Block pays.Block paid_at alternative_paid_at case_paid_at (Stmt-F.Match x p))
+      ∙ h (match_weight (binds p) + c);
+  sets = λ x e given next h c.
+      ap (λ (a : pays.Action). a given next c)
+      (ap paid (sym (rolls-Set x e)) ∙ fold-roll-Stmt pays.Action pays.Block pays.Block paid_at alternative_paid_at case_paid_at (Stmt-F.Set x e))
+      ∙ h (set_spares (out-Expression e) + c);
+  calls = λ f xs ys given next h c.
+      ap (λ (a : pays.Action). a given next c)
+      (ap paid (sym (rolls-Call f xs ys)) ∙ fold-roll-Stmt pays.Action pays.Block pays.Block paid_at alternative_paid_at case_paid_at (Stmt-F.Call f xs ys))
+      ∙ h (entry_spares + (call_weight + c));
+  built_ins = λ k xs ys given next h c.
+      ap (λ (a : pays.Action). a given next c)
+      (ap paid (sym (rolls-Builtin k xs ys)) ∙ fold-roll-Stmt pays.Action pays.Block pays.Block paid_at alternative_paid_at case_paid_at (Stmt-F.Builtin k xs ys))
+      ∙ h (built_in_spares k (length ys) + c);
+  equals = λ x y given next h c.
+      ap (λ (a : pays.Action). a given next c)
+      (ap paid (sym (rolls-Equal x y)) ∙ fold-roll-Stmt pays.Action pays.Block pays.Block paid_at alternative_paid_at case_paid_at (Stmt-F.Equal x y))
+      ∙ h (equal_weight + c);
+  nots = λ block inside given next h c.
+      ap (λ (a : pays.Action). a given next c)
+      (ap paid (sym (rolls-Not (block ++ stmt.Give [] ∷ [])))
+      ∙ fold-roll-Stmt pays.Action pays.Block pays.Block paid_at alternative_paid_at case_paid_at (Stmt-F.Not (block ++ stmt.Give [] ∷ [])))
+      ∙ joined (pays.in_turn (map paid (block ++ stmt.Give [] ∷ [])) nothing (not_weight - frame_cost + c)) (next entry_spares)
+      (paid-behind block (stmt.Give [] ∷ []) nothing inside (give-paid [] nothing (λ d. refl)) (not_weight - frame_cost + c)) (h entry_spares);
+}
+
+-- a block that is paid with whatever is to spare, as an alternative before others
+first-paid : (a : pays.Block) (rest : List pays.Block) (given : Paid) (c : ℕ) → frame_cost ≤ c → ((d : ℕ) → a given d ≡ true) → ((d : ℕ) → frame_cost ≤ d → pays.in_order rest given d ≡ true)
+    → pays.in_order (a ∷ rest) given c ≡ true
+first-paid a [] given c le each others = each c
+first-paid a (b ∷ rest) given c le each others =
+    joined (nat_le frame_cost c && a given (c - frame_cost)) (pays.in_order (b ∷ rest) given entry_spares)
+    (joined (nat_le frame_cost c) (a given (c - frame_cost)) (le-leb frame_cost c le) (each (c - frame_cost))) (others entry_spares (omega arith))
+
+module _ (names : List (List ℕ)) (params : ℕ) where
+  rule-paid : {r : RRule} {block : List Stmt} → IsRule names params r block → (c : ℕ) → pays.in_turn (map paid block) nothing c ≡ true
+  rule-paid i c =
+      ap (λ b. pays.in_turn (map paid b) nothing c) i.is
+      ∙ paid-behind ((i.head ++ i.premises) ++ i.sets) (stmt.Give i.results ∷ []) nothing (before-give names params IsPaid kinds-paid i) (give-paid i.results nothing (λ d. refl)) c
+
+  rules-paid : {rules : List RRule} {alternatives : List Alternative} → AreRules names params rules alternatives → (c : ℕ) → frame_cost ≤ c → pays.in_order (map alternative_paid alternatives) nothing c ≡ true
+  rules-paid AreRules.none c le = refl
+  rules-paid (AreRules.more r rs a rest i is) c le =
+      first-paid (alternative_paid a) (map alternative_paid rest) nothing c le
+      (λ d.
+      ap (λ (b : pays.Block). b nothing d)
+      (ap alternative_paid (sym (roll-out-Alternative a)) ∙ fold-roll-Alternative pays.Action pays.Block pays.Block paid_at alternative_paid_at case_paid_at (out-Alternative a))
+      ∙ rule-paid i d)
+      (rules-paid is)
+
+  -- the frames of a body in plain form are paid: those of its alternatives by where the path begins, and those of a `not` by itself
+  pub body-is-paid : (rules : List RRule) (alternatives : List Alternative) (body : List Stmt) → AreRules names params rules alternatives → body ≡ stmt.Or alternatives ∷ []
+      → pays.in_turn (map paid body) nothing entry_spares ≡ true
+  body-is-paid rules alternatives body each is =
+      ap (λ b. pays.in_turn (map paid b) nothing entry_spares) is
+      ∙ ap (λ (a : pays.Action). a nothing (pays.in_turn [] nothing) entry_spares)
+      (ap paid (sym (rolls-Or alternatives)) ∙ fold-roll-Stmt pays.Action pays.Block pays.Block paid_at alternative_paid_at case_paid_at (Stmt-F.Or alternatives))
+      ∙ rules-paid each entry_spares (omega arith)
 
 -- ---- as many variables as expressions
 

@@ -130,11 +130,11 @@ module _ (names : List (List ℕ)) (params : ℕ) where
 
   -- ---- goals
 
-  row_light : (o : Option Row) (n : ℕ) → n ≤ 2 → row_weight o n ≤ 14 + 2 * n
+  row_light : (o : Option Row) (n : ℕ) → n ≤ 1 → row_weight o n ≤ 15 + 2 * n
   row_light None n h = omega arith
   row_light (Some row) n h = silent_light (is_silent row) n
     where
-      silent_light : (b : Bool) (m : ℕ) → (if b then 14 + 2 * m else 0) ≤ 14 + 2 * m
+      silent_light : (b : Bool) (m : ℕ) → (if b then 15 + 2 * m else 0) ≤ 15 + 2 * m
       silent_light true m = omega arith
       silent_light false m = omega arith
 
@@ -172,7 +172,7 @@ module _ (names : List (List ℕ)) (params : ℕ) where
       let matches = matches_light ps in
       record { first = λ p. omega (arith, sets, matches); later = λ p. omega (arith, sets, matches) }
 
-  built_light : (k : ℕ) (es : List RExp) (ps : List RPat) → length ps ≤ 2
+  built_light : (k : ℕ) (es : List RExp) (ps : List RPat) → length ps ≤ 1
       → Light (heavier (weight_of_sets names params es + (built_in_weight k (length ps) + weight_of_matches names params ps))) (1 + sum_by exp_size es + sum_by pattern_size ps)
   built_light k es ps few =
       let sets = sets_light es in
@@ -181,7 +181,7 @@ module _ (names : List (List ℕ)) (params : ℕ) where
       record { first = λ p. omega (arith, sets, matches, row); later = λ p. omega arith }
 
   goal_layer : (y : RGoal-F ((x : RGoal) × GoalLight x)) → GoalLight (roll-RGoal (map-RGoal ((x : RGoal) × GoalLight x) RGoal (λ e. e.0) y))
-  goal_layer (RGoal-F.Call (called.Built k) es ps) = goal_rolled (RGoal-F.Call (called.Built k) es ps) (λ few. built_light k es ps (leb-true (length ps) 2 few))
+  goal_layer (RGoal-F.Call (called.Built k) es ps) = goal_rolled (RGoal-F.Call (called.Built k) es ps) (λ few. built_light k es ps (leb-true (length ps) 1 few))
   goal_layer (RGoal-F.Call (called.Rel r) es ps) = goal_rolled (RGoal-F.Call (called.Rel r) es ps) (λ few. call_light es ps)
   goal_layer (RGoal-F.Call (called.Var x) es ps) = goal_rolled (RGoal-F.Call (called.Var x) es ps) (λ few. call_light es ps)
   goal_layer (RGoal-F.Call (called.Val k) es ps) = goal_rolled (RGoal-F.Call (called.Val k) es ps) (λ few. call_light es ps)

@@ -8,7 +8,7 @@ use Rattle.rml_clause.specs.Clauses.{AreClauses, EachNumbered}
 use Rattle.rml_clause.specs.Made.{IsClausesOf}
 use Rattle.rml_clause.proofs.Adding.{numbers-fresh}
 
-each-fresh : (params end : ℕ) (rules : List RRule) (all : List Alternative) → EachNumbered params end rules all → EachFresh params rules all
+pub each-fresh : (params end : ℕ) (rules : List RRule) (all : List Alternative) → EachNumbered params end rules all → EachFresh params rules all
 each-fresh params end [] all h = tt
 each-fresh params end (r ∷ rules) [] h = absurd h
 each-fresh params end (r ∷ rules) (a ∷ all) h =

@@ -23,6 +23,7 @@ use Rattle.rml_terms.specs.Env.{Env, bind, look}
 use Rattle.rml_terms.specs.Evaluating.{Evaluation}
 use Rattle.rml_terms.specs.Matching.{match_in_turn}
 use Rattle.rml_terms.specs.Calling.{RelationCalls, with_value, relation_in, trace_of_built_in}
+use Rattle.rml_terms.proofs.Callers.{Worth, worth_same, look_new, worth_then}
 use Rattle.rml_resolved.specs.declared.parts.Counts.{Counts}
 use Rattle.rml_resolved.specs.declared.tables.ConDef.{ConDef}
 use Rattle.rml_resolved.specs.declared.trees.RPat.{RPat}
@@ -53,8 +54,7 @@ use Rattle.rml_fol.specs.Acts.{acts-Call, acts-Builtin, acts-Equal, acts-Not, ac
 use Rattle.rml_clause.specs.Plain.{pattern_of, IsIn, AreIn, AreMatched, IsPremise, ArePremises}
 use Rattle.rml_clause.specs.Fresh.{fresh, fresh_in}
 use Rattle.rml_clause.specs.Narrow.{Path, ended, heavier, round_step, weight_of_set, weight_of_sets, weight_of_match, weight_of_matches, Before, befores_in_turn, before_at, before, before_all}
-use Rattle.rml_clause.proofs.Environments.{Worth, worth_same, keeps_bound, StandFor, stand_kept, look_new, Stands, stands_set, stands_as, stands_front, stands_back}
-use Rattle.rml_clause.proofs.Terms.{worth_then}
+use Rattle.rml_clause.proofs.Environments.{keeps_bound, StandFor, stand_kept, Stands, stands_set, stands_as, stands_front, stands_back}
 use Rattle.rml_clause.proofs.Budget.{followed_weighed_step, followed_weighing, Affords, afford_less, afford_equal, afford_weigh, afford_step, afford_traced, afford_wrong, afford_call}
 use Rattle.rml_clause.proofs.Steps.{fresh_append, fresh_split, fresh-Set, fresh-Match, fresh-Call, fresh-Builtin, fresh-Equal, fresh-Not, fresh-Give, fresh_matches, values_there, all_received, after_match, matched_state, onto, onto_append, onto_block, afford_with, told, afford_weighing, afford_set, afford_in, afford_sets, afford_pattern, afford_matches}
 

@@ -10,6 +10,7 @@ use Rattle.std.proofs.lemmas.Option.{same_Some, slice_get-map}
 use Rattle.rml_base.specs.Light.{Light, NoWrong}
 use Rattle.rml_value.specs.declared.value.Value.{Value}
 use Rattle.rml_terms.specs.Evaluating.{vals_to, vals_of}
+use Rattle.rml_terms.proofs.Callers.{Worth, worth_at}
 use Rattle.rml_resolved.specs.declared.limits.TheConstants.{FEW_PARTS, PRELUDE_TOKENS}
 use Rattle.rml_resolved.specs.declared.program.Program.{Program}
 use Rattle.rml_resolved.specs.declared.tables.ValDef.{ValDef}
@@ -33,7 +34,7 @@ use Rattle.rml_clause.specs.Plain.{expression_of, AreRules}
 use Rattle.rml_clause.specs.Narrow.{rule_has_few, relation_has_few, EachShort}
 use Rattle.rml_clause.specs.Made.{IsMadeOf, IsClausesOf, ClausesAt, AreClausesOf}
 use Rattle.rml_clause.specs.Carries.{EachCarries, FirstCarries, AreCarried}
-use Rattle.rml_clause.proofs.Environments.{Worth, worth_at, Stands}
+use Rattle.rml_clause.proofs.Environments.{Stands}
 use Rattle.rml_clause.proofs.Terms.{expression_worth}
 use Rattle.rml_clause.proofs.Premises.{counts_matched}
 use Rattle.rml_clause.proofs.Rules.{counts_from, made_earns, made_keeps}
@@ -135,7 +136,7 @@ module _ (p : Program) (q : Parts) (few : IsTrue (list_all relation_has_few p.re
   abbrev vals : Vals
   vals = values_of_vals q.vals
 
-  is_made : (k : ℕ) (old : RelDef) (new : Relation) → slice_get p.rels k ≡ Some old → IsClausesOf p.names old.rules new → IsMadeOf (context_of p) vals (counts_of p.names p.vals p.rels) p.cons old.rules new
+  pub is_made : (k : ℕ) (old : RelDef) (new : Relation) → slice_get p.rels k ≡ Some old → IsClausesOf p.names old.rules new → IsMadeOf (context_of p) vals (counts_of p.names p.vals p.rels) p.cons old.rules new
   is_made k old new is clauses =
       let counts = counts_of p.names p.vals p.rels in
       let fits = both _ (list_all (rule_fits counts p.cons) old.rules) (passes_at (relation_fits counts p.types p.cons) p.rels k old p.relations_fit is) in

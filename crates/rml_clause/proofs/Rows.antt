@@ -1,8 +1,8 @@
 -- Walks over rows of patterns, expressions, goals and rules, and how large their parts are.
-use Rattle.std.proofs.Common.{◌≡◌, ℕ, zero, suc, ◌+◌, ◌<◌, ◌≤◌, Bool, IsTrue, List, [], ◌∷◌, ◌++◌, map, length, get_or, take, Some, None, slice_get, refl, sym, ap, subst, ◌∙◌, arith}
+use Rattle.std.proofs.Common.{◌≡◌, ℕ, zero, suc, ◌+◌, ◌<◌, ◌≤◌, Bool, true, false, IsTrue, List, [], ◌∷◌, ◌++◌, map, length, get_or, take, Some, None, slice_get, refl, sym, ap, subst, ◌∙◌, arith}
 use Rattle.std.proofs.lemmas.List.{map_more}
 use Rattle.std.proofs.lemmas.List.Sums.{sum_by_more_le, sum_by-cons}
-use Rattle.std.specs.Prelude.{sum_by}
+use Rattle.std.specs.Prelude.{◌&&◌, sum_by}
 use Rattle.rml_resolved.specs.declared.trees.RPat.{RPat, out-RPat, roll-RPat, fold-roll-RPat, ind-RPat}
 use Rattle.rml_resolved.specs.declared.trees.RPat.TheViews.{out-roll-RPat}
 use Rattle.rml_resolved.specs.declared.trees.RPat.TheOpen.{RPat-F}
@@ -12,6 +12,10 @@ use Rattle.rml_resolved.specs.declared.trees.RExp.TheOpen.{RExp-F}
 use Rattle.rml_resolved.specs.Size.{pattern_at, pattern_size, exp_at, exp_size}
 use Rattle.rml_resolved.proofs.Callers.{both}
 use Rattle.rml_clause.specs.Within.{every}
+
+pub joined : (a b : Bool) → a ≡ true → b ≡ true → (a && b) ≡ true
+joined true b f g = g
+joined false b f g = absurd (cc)
 
 -- what holds of each holds of one
 pub every-at : {A : Type 0} (f : A → Bool) (xs : List A) (i : ℕ) (x d : A) → i < length xs → x ≡ get_or xs i d → IsTrue (every (map f xs)) → IsTrue (f x)

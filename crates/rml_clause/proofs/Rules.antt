@@ -21,6 +21,7 @@ use Rattle.rml_terms.specs.declared.state.Matched.TheVariants as matched
 use Rattle.rml_terms.specs.Env.{Env, values_in}
 use Rattle.rml_terms.specs.Matching.{match_in_turn}
 use Rattle.rml_terms.specs.Calling.{RelationCalls, with_value}
+use Rattle.rml_terms.proofs.Callers.{Worth, worth_from}
 use Rattle.rml_resolved.specs.declared.parts.Counts.{Counts}
 use Rattle.rml_resolved.specs.declared.tables.ConDef.{ConDef}
 use Rattle.rml_resolved.specs.declared.tables.RRule.{RRule}
@@ -46,7 +47,7 @@ use Rattle.rml_clause.specs.Fresh.{AreFresh, EachFresh, fresh_in}
 use Rattle.rml_clause.specs.Narrow.{ended, heavier, weight_of_sets, weight_of_matches, before_all, path_of, EachNarrow}
 use Rattle.rml_clause.specs.Made.{IsMadeOf}
 use Rattle.rml_clause.specs.Carries.{Carries}
-use Rattle.rml_clause.proofs.Environments.{Worth, worth_from, StandFor, Stands, stands_as, stands_first, stand_from}
+use Rattle.rml_clause.proofs.Environments.{StandFor, Stands, stands_as, stands_first, stand_from}
 use Rattle.rml_clause.proofs.Budget.{followed_weighed_step, followed_weighing, Affords, afford_less, afford_equal, afford_weigh, afford_step}
 use Rattle.rml_clause.proofs.Steps.{fresh_append, fresh_split, fresh_matches, fresh-Give, bindings_there, after_match, onto, onto_append, onto_block, afford_with, told, afford_sets, afford_matches}
 use Rattle.rml_clause.proofs.Premises.{counts_matched, step_each, premises_do}

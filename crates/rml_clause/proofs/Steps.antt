@@ -17,6 +17,7 @@ use Rattle.rml_terms.specs.Env.{Env, bind, look, values_in}
 use Rattle.rml_terms.specs.Matching.{then_match, match_in_turn}
 use Rattle.rml_terms.specs.Evaluating.{Evaluation, with_first}
 use Rattle.rml_terms.specs.Calling.{RelationCalls, with_value}
+use Rattle.rml_terms.proofs.Callers.{Worth, worth_at, look_new}
 use Rattle.rml_resolved.specs.declared.parts.Counts.{Counts}
 use Rattle.rml_resolved.specs.declared.tables.ConDef.{ConDef}
 use Rattle.rml_resolved.specs.declared.trees.RPat.{RPat}
@@ -49,7 +50,7 @@ use Rattle.rml_fol.specs.Acts.{acts-Match, acts-Set}
 use Rattle.rml_clause.specs.Plain.{expression_at, expression_of, pattern_of, IsIn, AreIn, AreMatched}
 use Rattle.rml_clause.specs.Fresh.{fresh_at, alternative_fresh_at, case_fresh_at, fresh, fresh_in}
 use Rattle.rml_clause.specs.Narrow.{weight_of_set, weight_of_sets, weight_of_match, weight_of_matches}
-use Rattle.rml_clause.proofs.Environments.{Worth, worth_at, Keeps, keeps_all, keeps_more, keeps_bound, StandFor, stand_kept, look_new, Stands, stands_set, stands_as}
+use Rattle.rml_clause.proofs.Environments.{Keeps, keeps_all, keeps_more, keeps_bound, StandFor, stand_kept, Stands, stands_set, stands_as}
 use Rattle.rml_clause.proofs.Terms.{Agrees, pattern_agrees, expression_worth}
 use Rattle.rml_clause.proofs.Budget.{followed_weighing, Affords, afford_less, afford_equal, afford_weigh, afford_wrong}
 

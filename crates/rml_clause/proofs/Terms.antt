@@ -18,6 +18,7 @@ use Rattle.rml_terms.specs.declared.state.Matched.TheVariants as matched
 use Rattle.rml_terms.specs.Env.{Env, bind}
 use Rattle.rml_terms.specs.Matching.{Matcher, then_match, match_in_turn, match_all, when, match_int, match_char, match_text, match_con_at, match_con, match_tuple_at, match_list, match_chain}
 use Rattle.rml_terms.specs.Evaluating.{Evaluation, with_first, all_of, chain_of}
+use Rattle.rml_terms.proofs.Callers.{Worth, worth_same, worth_map, worth_then, worth_first}
 use Rattle.rml_resolved.specs.declared.parts.Counts.{Counts}
 use Rattle.rml_resolved.specs.declared.tables.ConDef.{ConDef}
 use Rattle.rml_resolved.specs.declared.trees.RPat.{RPat, map-RPat, roll-RPat, fold-roll-RPat, ind-RPat}
@@ -38,7 +39,7 @@ use Rattle.rml_fol.specs.declared.terms.Expression.TheVariants as expression
 use Rattle.rml_fol.specs.Patterns.{match_literal, match_at, matching}
 use Rattle.rml_fol.specs.Expressions.{Vals, literal_value, value_at, value_of}
 use Rattle.rml_clause.specs.Plain.{literal_of, pattern_at, pattern_of, expression_at, expression_of}
-use Rattle.rml_clause.proofs.Environments.{Worth, worth_same, Keeps, keeps_all, keeps_more, keeps_bound, Stands, stands_bound}
+use Rattle.rml_clause.proofs.Environments.{Keeps, keeps_all, keeps_more, keeps_bound, Stands, stands_bound}
 
 -- ---- matches
 
@@ -233,19 +234,6 @@ module _ (params vars : ℕ) (more : List ℕ) where
     pattern_agrees = ind-RPat PatternAgrees (λ x y is. subst (λ z. PatternAgrees (roll-RPat z)) is (layer y))
 
 -- ---- expressions
-
-worth_map : {A B : Type 0} (f : A → B) (o p : Option A) → Worth o p → Worth (option_map f o) (option_map f p)
-worth_map f None p h = tt
-worth_map f (Some a) p h = ap (option_map f) h
-
-pub worth_then : {A B : Type 0} (f : A → Option B) (o p : Option A) → Worth o p → Worth (option_and_then f o) (option_and_then f p)
-worth_then f None p h = tt
-worth_then f (Some a) p h = worth_same (f a) (option_and_then f p) (sym (ap (option_and_then f) h))
-
-worth_first : (o p : Option Value) (r s : Option (List Value)) → Worth o p → Worth r s → Worth (with_first o r) (with_first p s)
-worth_first None p r s h k = tt
-worth_first (Some v) p None s h k = tt
-worth_first (Some v) p (Some vs) s h k = ap (λ (q : Option Value). with_first q s) h ∙ ap (λ (q : Option (List Value)). with_first (Some v) q) k
 
 named_worth : (names : List (List ℕ)) (k : ℕ) (o : Option (List ℕ)) → slice_get names k ≡ o → Worth (option_map value.Text o) (Some (value.Text (slice_index_or names k [])))
 named_worth names k None e = tt

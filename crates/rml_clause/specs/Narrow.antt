@@ -85,9 +85,9 @@ module _ (names : List (List ℕ)) (params : ℕ) where
 
 -- ---- short rules
 
--- a built-in that is called has two results at most
+-- a built-in that is called has one result at most
 abbrev pub few_results_at : RGoal-F Bool → Bool
-few_results_at (RGoal-F.Call (callee.Built k) es ps) = nat_le (length ps) 2
+few_results_at (RGoal-F.Call (callee.Built k) es ps) = nat_le (length ps) 1
 few_results_at (RGoal-F.Not g) = g
 few_results_at (RGoal-F.All gs) = list_all (λ g. g) gs
 few_results_at _ = true

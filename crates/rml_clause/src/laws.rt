@@ -42,7 +42,7 @@ pub fn carried_is_light()
 {}
 
 /// Tables in clause form that were made of a program mean the same and cost no more, where no search of the program is Wrong, and no
-/// built-in is called for more than two results.
+/// built-in is called for more than one result.
 pub fn made_programs_are_light()
     ensures { (p : Program) (q : Parts) → NoWrong (searched_runs p) → IsTrue (list_all relation_has_few p.rels) → AreClausesOf p q → Light (searched_runs p) (runs_of q) }
 {}

@@ -15,8 +15,8 @@ use Rattle.rml_resolved.specs.Typing.{type_fits, gives_whole, makes_whole, con_d
 use Rattle.rml_resolved.specs.declared.limits.TheConstants.{CON_ARGUMENTS}
 use Rattle.rml_resolved.proofs.Callers.{both}
 use Rattle.rml_fol.specs.Fits.{arity_of, cons_begin, con_is_small}
+use Rattle.rml_clause.proofs.Callers.{joined}
 use Rattle.rml_clauses.specs.Tables.{constructor_of}
-use Rattle.rml_clauses.proofs.Rows.{joined}
 
 -- how many arguments
 abbrev count : Arguments → ℕ

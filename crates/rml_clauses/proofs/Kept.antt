@@ -24,13 +24,16 @@ use Rattle.rml_fol.specs.declared.parts.Parts.{Parts}
 use Rattle.rml_fol.specs.Ends.{relation_ends}
 use Rattle.rml_fol.specs.Fits.{Signature, Signatures, signature_of, signatures_of, arity_of, stmt_fits, relation_fits, val_fits, main_fits, cons_begin, con_is_small, name_is_bytes}
 use Rattle.rml_fol.specs.Gives.{relation_gives}
+use Rattle.rml_fol.specs.Scoped.{relation_is_scoped}
+use Rattle.rml_fol.specs.Paid.{relation_is_paid}
 use Rattle.rml_fol.specs.Size.{size, relation_is_small, weight_of}
-use Rattle.rml_clause.proofs.Callers.{body-ends, body-gives, EachResults}
+use Rattle.rml_clause.proofs.Callers.{body-ends, body-gives, body-is-paid, each-fresh, EachResults, joined}
 use Rattle.rml_clauses.specs.Agrees.{shape, shapes_of, goal_agrees, rule_agrees, relation_agrees, counts_agree}
 use Rattle.rml_clauses.specs.Facts.{KeepsFacts}
 use Rattle.rml_clauses.specs.Tables.{name_of, module_in, constructor_of, val_of, IsRelationOf, AreRelationsOf, AreTablesOf}
-use Rattle.rml_clauses.proofs.Rows.{joined, row-more}
-use Rattle.rml_clauses.proofs.Ready.{IsKnown, known-rule, shape-few, is-known, weight-small, val-fits}
+use Rattle.rml_clauses.proofs.Rows.{row-more}
+use Rattle.rml_clauses.proofs.Binding.{body-scoped}
+use Rattle.rml_clauses.proofs.Ready.{IsKnown, known-rule, binding-rule, shape-few, is-known, weight-small, val-fits}
 use Rattle.rml_clauses.proofs.Terms.{bytes-at, arity, Declares, expression-fits}
 use Rattle.rml_clauses.proofs.Statements.{body-fits}
 use Rattle.rml_clauses.proofs.Sizes.{body-size, enough}
@@ -107,6 +110,12 @@ each-results names params given (r ∷ rules) h =
 module _ (names : List (List ℕ)) (n : Counts) (cons : List ConDef) (shapes : List Signature) (d : RelDef) (r : Relation) (known : IsKnown n cons shapes d) (h : IsRelationOf names d r) where
   ends : relation_ends r ≡ true
   ends = body-ends names r.params d.rules h.clauses.alternatives r.body.stmts h.clauses.each h.clauses.is
+
+  is-scoped : relation_is_scoped r ≡ true
+  is-scoped = body-scoped names r.params h.clauses.each h.clauses.is (binding-rule n cons shapes d known) (each-fresh r.params r.vars d.rules h.clauses.alternatives h.clauses.numbered)
+
+  is-paid : relation_is_paid r ≡ true
+  is-paid = body-is-paid names r.params d.rules h.clauses.alternatives r.body.stmts h.clauses.each h.clauses.is
 
   results-told : list_all (λ (x : RRule). length x.results == (shape d).results) d.rules ≡ true
   results-told =
@@ -191,6 +200,8 @@ keeps p q agree h =
           ∙ ap (λ (ss : List Signature). main_fits p.gives (slice_get ss p.main)) signatures
           ∙ (both (list_all (relation_agrees shapes) p.rels) (main_fits p.gives (slice_get shapes p.main)) agree).second;
       blocks_end = relations-pass p.names n p.cons shapes relation_ends (λ d r k i. ends p.names n p.cons shapes d r k i) p.rels q.rels h.rels known;
+      relations_scoped = relations-pass p.names n p.cons shapes relation_is_scoped (λ d r k i. is-scoped p.names n p.cons shapes d r k i) p.rels q.rels h.rels known;
+      relations_paid = relations-pass p.names n p.cons shapes relation_is_paid (λ d r k i. is-paid p.names n p.cons shapes d r k i) p.rels q.rels h.rels known;
       gives_fit = relations-pass p.names n p.cons shapes relation_gives (λ d r k i. gives p.names n p.cons shapes d r k i) p.rels q.rels h.rels known;
       relations_small = relations-pass p.names n p.cons shapes relation_is_small (λ d r k i. small-relation p.names n p.cons shapes d r k i) p.rels q.rels h.rels known;
       light =

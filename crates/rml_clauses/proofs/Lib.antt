@@ -6,6 +6,7 @@ pub mod Made
 pub mod Terms
 pub mod Statements
 pub mod Sizes
+pub mod Binding
 pub mod Beginning
 pub mod Weighed
 pub mod Kept

@@ -1,4 +1,4 @@
--- Tables that were made of a program whose counts agree are made of its rules, and call built-ins for at most two results.
+-- Tables that were made of a program whose counts agree are made of its rules, and call built-ins for at most one result.
 use Rattle.std.proofs.Common.{◌≡◌, ℕ, zero, suc, ◌+◌, ◌<◌, ◌≤◌, Bool, true, List, [], ◌∷◌, ◌++◌, map, length, get_or, take, Option, Some, None, refl, sym, ap, subst, ◌∙◌, arith, IsTrue}
 use Rattle.std.specs.Prelude.{◌&&◌, ◌==◌, slice_get}
 use Rattle.std.specs.List.{list_all}
@@ -6,9 +6,6 @@ use Rattle.std.proofs.lemmas.Bool.{eqb-true, le-leb}
 use Rattle.std.proofs.lemmas.List.{take_more}
 use Rattle.rml_base.specs.Light.{Light, NoWrong}
 use Rattle.rml_builtin.specs.declared.row.TheConstants.{ROWS}
-use Rattle.rml_builtin.specs.declared.row.Row.{Row}
-use Rattle.rml_builtin.specs.declared.row.Row.TheVariants.{LvarSet, Print}
-use Rattle.rml_builtin.specs.Table.{inputs_of, outputs_of}
 use Rattle.rml_resolved.specs.declared.program.Program.{Program}
 use Rattle.rml_resolved.specs.declared.tables.ValDef.{ValDef}
 use Rattle.rml_resolved.specs.declared.tables.RelDef.{RelDef}
@@ -22,13 +19,15 @@ use Rattle.rml_fol.specs.declared.parts.Parts.{Parts}
 use Rattle.rml_fol.specs.declared.parts.Relation.{Relation}
 use Rattle.rml_fol.specs.declared.parts.Val.{Val}
 use Rattle.rml_fol.specs.declared.terms.Expression.{Expression}
-use Rattle.rml_fol.specs.Fits.{Signature, row_takes_and_gives, main_fits}
+use Rattle.rml_fol.specs.Fits.{Signature, main_fits}
 use Rattle.rml_fol.specs.Runs.{runs_of}
+use Rattle.rml_fol.proofs.Callers.{row-few}
 use Rattle.rml_clause.specs.Plain.{expression_of}
 use Rattle.rml_clause.specs.Narrow.{few_results_at, few_results, rule_has_few, relation_has_few}
 use Rattle.rml_clause.specs.Made.{ClausesAt, AreClausesOf}
-use Rattle.rml_clause.proofs.Callers.{made, made_light}
+use Rattle.rml_clause.proofs.Callers.{is_made, made, made_light}
 use Rattle.rml_clauses.specs.Agrees.{shape, shapes_of, goal_agrees_at, goal_agrees, rule_agrees, relation_agrees, counts_agree}
+use Rattle.rml_clauses.specs.Paths.{AreNarrow}
 use Rattle.rml_clauses.specs.Tables.{val_of, IsRelationOf, AreRelationsOf, AreTablesOf}
 use Rattle.rml_clauses.proofs.Rows.{every-more, row-more}
 
@@ -65,20 +64,7 @@ relations-more names defs i d x r so_far later less is one h pushed =
     subst (λ (ds : List RelDef). AreRelationsOf names ds later) (sym (take_more defs i x less ∙ ap (λ (z : RelDef). take i defs ++ z ∷ []) (sym is)))
     (subst (λ (rs : List Relation). AreRelationsOf names (take i defs ++ d ∷ []) rs) (sym pushed) (relations-last names (take i defs) so_far d r h one))
 
--- ---- no built-in has more than two results
-
-outputs-few : (row : Row) → length (outputs_of row) ≤ 2
-outputs-few LvarSet = omega arith
-outputs-few Print = omega arith
-outputs-few _ = omega arith
-
-row-few : (o : Option Row) (taken given : ℕ) → row_takes_and_gives taken given o ≡ true → given ≤ 2
-row-few None taken given h = absurd (cc)
-row-few (Some row) taken given h =
-    let two = both (length (inputs_of row) == taken) (length (outputs_of row) == given) h in
-    let same = eqb-true (length (outputs_of row)) given two.second in
-    let few = outputs-few row in
-    omega (arith, same, few)
+-- ---- no built-in has more than one result
 
 module _ (shapes : List Signature) where
   abbrev HasFew : RGoal → Type 0
@@ -90,7 +76,7 @@ module _ (shapes : List Signature) where
   few-layer : (y : RGoal-F ((x : RGoal) × HasFew x)) → HasFew (roll-RGoal (map-RGoal ((x : RGoal) × HasFew x) RGoal (λ e. e.0) y))
   few-layer (RGoal-F.Call (called.Rel r) es ps) = few-rolled (RGoal-F.Call (called.Rel r) es ps) (λ h. refl)
   few-layer (RGoal-F.Call (called.Built k) es ps) =
-      few-rolled (RGoal-F.Call (called.Built k) es ps) (λ h. le-leb (length ps) 2 (row-few (slice_get ROWS k) (length es) (length ps) h))
+      few-rolled (RGoal-F.Call (called.Built k) es ps) (λ h. le-leb (length ps) 1 (row-few (slice_get ROWS k) (length es) (length ps) h))
   few-layer (RGoal-F.Call (called.Var x) es ps) = few-rolled (RGoal-F.Call (called.Var x) es ps) (λ h. refl)
   few-layer (RGoal-F.Call (called.Val k) es ps) = few-rolled (RGoal-F.Call (called.Val k) es ps) (λ h. refl)
   few-layer (RGoal-F.Equal a b) = few-rolled (RGoal-F.Equal a b) (λ h. refl)
@@ -118,3 +104,13 @@ relations-few p agree =
 
 pub tables-light : (p : Program) (q : Parts) → NoWrong (searched.runs_of p) → IsTrue (counts_agree p) → AreTablesOf p q → Light (searched.runs_of p) (runs_of q)
 tables-light p q right agree h = made_light p q right (relations-few p agree) (are-clauses p q h)
+
+-- a path weighs no more than a step of the search
+pub tables-narrow : (p : Program) (q : Parts) → IsTrue (counts_agree p) → AreTablesOf p q → AreNarrow p q
+tables-narrow p q agree h =
+    let clauses = are-clauses p q h in
+    record {
+      at = λ r old new is there.
+          (is_made p q (relations-few p agree) clauses r old new is
+          (subst (λ (w : Option Relation). ClausesAt p.names (Some old) w) there (subst (λ (o : Option RelDef). ClausesAt p.names o (slice_get q.rels r)) is (clauses.each r)))).narrow;
+    }

@@ -12,15 +12,16 @@ use Rattle.rml_resolved.specs.declared.tables.RelDef.{RelDef}
 use Rattle.rml_resolved.specs.declared.tables.RRule.{RRule}
 use Rattle.rml_resolved.specs.declared.trees.RExp.{RExp}
 use Rattle.rml_resolved.specs.declared.program.Program.{Program}
-use Rattle.rml_resolved.specs.Binding.{binds_once, relation_binds_once}
+use Rattle.rml_resolved.specs.Binding.{rule_binds, is_distinct, binds_once, relation_binds_once, uses_bound, relation_uses_bound}
 use Rattle.rml_resolved.specs.Fits.{counts_of, exp_fits, rule_fits, relation_fits, val_fits}
 use Rattle.rml_resolved.specs.Size.{exp_size, rule_size, rule_is_small, relation_is_small, relation_tokens, weight}
-use Rattle.rml_resolved.proofs.Callers.{both}
+use Rattle.rml_resolved.proofs.Callers.{both, rule_below}
 use Rattle.rml_fol.specs.Fits.{Signature, main_fits}
 use Rattle.rml_clause.specs.Within.{rule_within}
 use Rattle.rml_clause.proofs.Callers.{sum-at, expression-counts, patterns-count}
 use Rattle.rml_clauses.specs.Agrees.{shape_of, shape, shapes_of, goal_agrees, rule_agrees, relation_agrees, counts_agree}
 use Rattle.rml_clauses.specs.Ready.{IsReady, HasValue}
+use Rattle.rml_clauses.proofs.Binding.{IsBinding}
 use Rattle.rml_clauses.proofs.Within.{exp-is-within, rule-is-within, vars-few}
 
 pub expressions-count : (es : List RExp) → length es ≤ sum_by exp_size es
@@ -59,6 +60,7 @@ pub record IsKnown (n : Counts) (cons : List ConDef) (shapes : List Signature) (
   pub fit : list_all (rule_fits n cons) d.rules ≡ true
   pub small : relation_is_small d ≡ true
   pub once : relation_binds_once d ≡ true
+  pub used : relation_uses_bound d ≡ true
   pub agrees : relation_agrees shapes d ≡ true
   pub light : relation_tokens d < 2 ^ 27
 
@@ -90,6 +92,18 @@ module _ (n : Counts) (cons : List ConDef) (shapes : List Signature) (d : RelDef
         tokens = small.1;
         few = omega (arith, part);
         vars = vars-few it (AllPass-from_list_all binds_once d.rules known.once k r less);
+      }
+
+  -- its variables are bound, at one place alone, and used only after it
+  pub binding-rule : (k : ℕ) (r : RRule) → k < length d.rules → IsBinding (slice_index_or d.rules k r)
+  binding-rule k r less =
+      let it : RRule = slice_index_or d.rules k r in
+      let fit = AllPass-from_list_all (rule_fits n cons) d.rules known.fit k r less in
+      let once = AllPass-from_list_all binds_once d.rules known.once k r less in
+      record {
+        below = rule_below n cons it fit;
+        apart = (both (is_distinct (rule_binds it)) (length (rule_binds it) == it.vars) once).first;
+        used = AllPass-from_list_all uses_bound d.rules known.used k r less;
       }
 
   shape-small : ((shape d).params ≤ 1073741824) × ((shape d).results ≤ 1073741824)
@@ -135,6 +149,7 @@ module _ (p : Program) (agree : counts_agree p ≡ true) where
         fit = fits.second;
         small = AllPass-from_list_all relation_is_small p.rels p.rules_small k d less;
         once = AllPass-from_list_all relation_binds_once p.rels p.bound_once k d less;
+        used = AllPass-from_list_all relation_uses_bound p.rels p.used_after k d less;
         agrees = AllPass-from_list_all (relation_agrees shapes) p.rels agreeing k d less;
         light = omega (arith, part, weight-small);
       }

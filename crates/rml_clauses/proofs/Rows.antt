@@ -5,10 +5,7 @@ use Rattle.std.specs.List.{list_all, concat}
 use Rattle.std.proofs.lemmas.List.{length-append}
 use Rattle.std.proofs.lemmas.List.Sums.{sum_by-cons}
 use Rattle.rml_resolved.proofs.Callers.{both}
-
-pub joined : (a b : Bool) → a ≡ true → b ≡ true → (a && b) ≡ true
-joined true b f g = g
-joined false b f g = absurd (cc)
+use Rattle.rml_clause.proofs.Callers.{joined}
 
 abbrev pub every : List Bool → Bool
 every = list_all (λ b. b)

@@ -1,19 +1,23 @@
--- The plain form of rules is as large as the rules: two statements for each part of a rule at most, and two besides.
-use Rattle.std.proofs.Common.{◌≡◌, ℕ, ◌+◌, ◌*◌, ◌≤◌, true, List, [], ◌∷◌, ◌++◌, map, sym, ap, ◌∙◌, arith}
+-- The plain form of rules is as large as the rules: two statements or patterns for each part of a rule at most, and two besides.
+use Rattle.std.proofs.Common.{◌≡◌, ℕ, ◌+◌, ◌*◌, ◌≤◌, true, List, [], ◌∷◌, ◌++◌, map, refl, sym, ap, subst, ◌∙◌, arith}
 use Rattle.std.specs.Prelude.{sum, sum_by}
 use Rattle.std.specs.List.{list_all}
 use Rattle.std.proofs.lemmas.List.Sums.{sum_by-append, sum_by-cons}
 use Rattle.rml_resolved.specs.declared.tables.RRule.{RRule}
-use Rattle.rml_resolved.specs.declared.trees.RPat.{RPat}
+use Rattle.rml_resolved.specs.declared.trees.RPat.{RPat, map-RPat, roll-RPat, fold-roll-RPat, ind-RPat}
+use Rattle.rml_resolved.specs.declared.trees.RPat.TheOpen.{RPat-F}
 use Rattle.rml_resolved.specs.declared.trees.RExp.{RExp}
 use Rattle.rml_resolved.specs.declared.trees.Callee.TheVariants as called
 use Rattle.rml_resolved.specs.declared.trees.RGoal.{RGoal, fold-roll-RGoal}
 use Rattle.rml_resolved.specs.declared.trees.RGoal.TheOpen.{RGoal-F}
 use Rattle.rml_resolved.specs.declared.trees.RGoal.TheVariants as goal
+use Rattle.rml_resolved.specs.Size as parts_of
 use Rattle.rml_resolved.specs.Size.{pattern_size, exp_size, goal_size, goal_size_at, rule_size, rule_is_small}
 use Rattle.rml_resolved.specs.Binding.{binds_once}
 use Rattle.rml_resolved.proofs.Callers.{both}
-use Rattle.rml_fol.specs.declared.terms.Pattern.{Pattern}
+use Rattle.rml_fol.specs.declared.terms.Pattern.{Pattern, map-Pattern, roll-Pattern, fold-roll-Pattern}
+use Rattle.rml_fol.specs.declared.terms.Pattern.TheOpen.{Pattern-F}
+use Rattle.rml_fol.specs.declared.terms.Pattern.TheVariants as pattern
 use Rattle.rml_fol.specs.declared.terms.Expression.{Expression}
 use Rattle.rml_fol.specs.declared.terms.Expression.TheVariants as expression
 use Rattle.rml_fol.specs.declared.statements.Callee.{Callee}
@@ -22,8 +26,8 @@ use Rattle.rml_fol.specs.declared.statements.Stmt.{Stmt, fold-roll-Stmt}
 use Rattle.rml_fol.specs.declared.statements.Stmt.TheVariants as stmt
 use Rattle.rml_fol.specs.declared.statements.Stmt.TheOpen.{Stmt-F}
 use Rattle.rml_fol.specs.declared.statements.Alternative.{Alternative, out-Alternative, fold-roll-Alternative, roll-out-Alternative}
-use Rattle.rml_fol.specs.Size.{size_at, alternative_size_at, case_size_at, size, alternative_size}
-use Rattle.rml_clause.specs.Plain.{pattern_of, expression_of, IsIn, AreIn, AreMatched, IsPremise, ArePremises, IsRule, AreRules}
+use Rattle.rml_fol.specs.Size.{pattern_nodes_at, pattern_nodes, size_at, alternative_size_at, case_size_at, size, alternative_size}
+use Rattle.rml_clause.specs.Plain.{literal_of, pattern_at, pattern_of, expression_of, IsIn, AreIn, AreMatched, IsPremise, ArePremises, IsRule, AreRules}
 use Rattle.rml_clause.specs.Clauses.{AreClauses, AreEnough}
 use Rattle.rml_clause.proofs.Callers.{goal_size-Call, pattern-counts, expression-counts}
 use Rattle.rml_clauses.proofs.Rows.{sum-cons, sum-mapped}
@@ -32,7 +36,7 @@ use Rattle.rml_clauses.proofs.Ready.{small-rule}
 
 -- ---- single statements
 
-size-Match : (x : ℕ) (p : Pattern) → size (stmt.Match x p) ≡ 1
+size-Match : (x : ℕ) (p : Pattern) → size (stmt.Match x p) ≡ 1 + pattern_nodes p
 size-Match x p = ap size (sym (stmt.rolls-Match x p)) ∙ fold-roll-Stmt ℕ ℕ ℕ size_at alternative_size_at case_size_at (Stmt-F.Match x p)
 
 size-Set : (x : ℕ) (e : Expression) → size (stmt.Set x e) ≡ 1
@@ -68,6 +72,42 @@ joined-size xs ys = sum_by-append size xs ys
 -- ---- goals
 
 module _ (names : List (List ℕ)) (params : ℕ) where
+  abbrev formed : RPat → Pattern
+  formed = pattern_of names params
+
+  abbrev SameNodes : RPat → Type 0
+  SameNodes p = pattern_nodes (formed p) ≡ pattern_size p
+
+  nodes-rolled : (y : RPat-F RPat) (z : Pattern-F Pattern) → pattern_at names params (map-RPat RPat Pattern formed y) ≡ roll-Pattern z
+      → pattern_nodes_at (map-Pattern Pattern ℕ pattern_nodes z) ≡ parts_of.pattern_at (map-RPat RPat ℕ pattern_size y) → SameNodes (roll-RPat y)
+  nodes-rolled y z e h =
+      ap pattern_nodes (fold-roll-RPat Pattern (pattern_at names params) y ∙ e) ∙ fold-roll-Pattern ℕ pattern_nodes_at z ∙ h ∙ sym (fold-roll-RPat ℕ parts_of.pattern_at y)
+
+  abbrev pats : List ((x : RPat) × SameNodes x) → List RPat
+  pats ps = map (λ e. e.0) ps
+
+  parts-same : (ps : List ((x : RPat) × SameNodes x)) → map pattern_nodes (map formed (pats ps)) ≡ map pattern_size (pats ps)
+  parts-same [] = refl
+  parts-same (p ∷ ps) = ap (λ (k : ℕ). k ∷ map pattern_nodes (map formed (pats ps))) p.1 ∙ ap (λ (ks : List ℕ). pattern_size p.0 ∷ ks) (parts-same ps)
+
+  sums-same : (ps : List ((x : RPat) × SameNodes x)) → 1 + sum (map pattern_nodes (map formed (pats ps))) ≡ 1 + sum (map pattern_size (pats ps))
+  sums-same ps = ap (λ (ks : List ℕ). 1 + sum ks) (parts-same ps)
+
+  nodes-layer : (y : RPat-F ((x : RPat) × SameNodes x)) → SameNodes (roll-RPat (map-RPat ((x : RPat) × SameNodes x) RPat (λ e. e.0) y))
+  nodes-layer RPat-F.Any = nodes-rolled RPat-F.Any Pattern-F.Any (sym pattern.rolls-Any) refl
+  nodes-layer (RPat-F.Lit l) = nodes-rolled (RPat-F.Lit l) (Pattern-F.Lit (literal_of names l)) (sym (pattern.rolls-Lit (literal_of names l))) refl
+  nodes-layer (RPat-F.Var x) = nodes-rolled (RPat-F.Var x) (Pattern-F.Var (params + x)) (sym (pattern.rolls-Var (params + x))) refl
+  nodes-layer (RPat-F.Con c ps) = nodes-rolled (RPat-F.Con c (pats ps)) (Pattern-F.Con c (map formed (pats ps))) (sym (pattern.rolls-Con c (map formed (pats ps)))) (sums-same ps)
+  nodes-layer (RPat-F.Tuple ps) = nodes-rolled (RPat-F.Tuple (pats ps)) (Pattern-F.Tuple (map formed (pats ps))) (sym (pattern.rolls-Tuple (map formed (pats ps)))) (sums-same ps)
+  nodes-layer (RPat-F.List ps) = nodes-rolled (RPat-F.List (pats ps)) (Pattern-F.List (map formed (pats ps))) (sym (pattern.rolls-List (map formed (pats ps)))) (sums-same ps)
+  nodes-layer (RPat-F.Cons ps) = nodes-rolled (RPat-F.Cons (pats ps)) (Pattern-F.Cons (map formed (pats ps))) (sym (pattern.rolls-Cons (map formed (pats ps)))) (sums-same ps)
+  nodes-layer (RPat-F.Bind x e) =
+      nodes-rolled (RPat-F.Bind x e.0) (Pattern-F.Bind (params + x) (formed e.0)) (sym (pattern.rolls-Bind (params + x) (formed e.0))) (ap (λ (k : ℕ). 1 + k) e.1)
+
+  -- as many patterns as there were
+  nodes-same : (p : RPat) → SameNodes p
+  nodes-same = ind-RPat SameNodes (λ x y is. subst (λ z. SameNodes (roll-RPat z)) is (nodes-layer y))
+
   in-size : {e : RExp} {y : ℕ} {s : List Stmt} → IsIn names params e y s → total s ≤ exp_size e
   in-size (IsIn.own x) = omega arith
   in-size (IsIn.set e y other) =
@@ -84,17 +124,19 @@ module _ (names : List (List ℕ)) (params : ℕ) where
       let parts = sum_by-cons exp_size e es in
       omega (arith, now, later, both, parts)
 
-  matched-size : {ps : List RPat} {ys : List ℕ} {s : List Stmt} → AreMatched names params ps ys s → total s ≤ sum_by pattern_size ps
+  matched-size : {ps : List RPat} {ys : List ℕ} {s : List Stmt} → AreMatched names params ps ys s → total s ≤ 2 * sum_by pattern_size ps
   matched-size AreMatched.none = omega arith
   matched-size (AreMatched.more p ps y ys rest m) =
-      let one = first-size (stmt.Match y (pattern_of names params p)) rest (size-Match y (pattern_of names params p)) in
+      let one = sum_by-cons size (stmt.Match y (pattern_of names params p)) rest in
+      let this = size-Match y (pattern_of names params p) in
+      let nodes = nodes-same p in
       let later = matched-size m in
       let some = pattern-counts p in
       let parts = sum_by-cons pattern_size p ps in
-      omega (arith, one, later, some, parts)
+      omega (arith, one, this, nodes, later, some, parts)
 
   called-size : {es : List RExp} {ps : List RPat} {xs ys : List ℕ} {sets matches : List Stmt} (s : Stmt) → size s ≡ 1 → AreIn names params es xs sets → AreMatched names params ps ys matches
-      → total (sets ++ s ∷ matches) ≤ 1 + sum_by exp_size es + sum_by pattern_size ps
+      → total (sets ++ s ∷ matches) ≤ 1 + sum_by exp_size es + 2 * sum_by pattern_size ps
   called-size {es} {ps} {xs} {ys} {sets} {matches} s one ins outs =
       let both = joined-size sets (s ∷ matches) in
       let next = first-size s matches one in
@@ -136,10 +178,13 @@ module _ (names : List (List ℕ)) (params : ℕ) where
         omega (arith, all, both, one, left, right, parts)
     premise-size (IsPremise.binding p e y first i) =
         let both = joined-size first (stmt.Match y (pattern_of names params p) ∷ []) in
-        let one = first-size (stmt.Match y (pattern_of names params p)) [] (size-Match y (pattern_of names params p)) in
+        let one = sum_by-cons size (stmt.Match y (pattern_of names params p)) [] in
+        let this = size-Match y (pattern_of names params p) in
+        let nodes = nodes-same p in
+        let some = pattern-counts p in
         let left = in-size i in
         let parts = ap goal_size (sym (goal.rolls-Let p e)) ∙ fold-roll-RGoal ℕ goal_size_at (RGoal-F.Let p e) in
-        omega (arith, both, one, left, parts)
+        omega (arith, both, one, this, nodes, some, left, parts)
     premise-size (IsPremise.negation g block i) =
         let inside = block ++ stmt.Give [] ∷ [] in
         let whole = sum_by-cons size (stmt.Not inside) [] in

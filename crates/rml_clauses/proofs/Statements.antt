@@ -35,9 +35,9 @@ use Rattle.rml_fol.specs.Fits.{Signature, Signatures, takes_and_gives, row_takes
 use Rattle.rml_clause.specs.Fresh.{fresh, fresh_in}
 use Rattle.rml_clause.specs.Plain.{numbers_from, pattern_of, expression_of, IsIn, AreIn, AreMatched, IsPremise, ArePremises, IsRule, AreRules}
 use Rattle.rml_clause.specs.Clauses.{EachNumbered, AreClauses}
-use Rattle.rml_clause.proofs.Callers.{EachOf, each-both, in-length, counts_matched, fresh_append, fresh-before-give, fresh-Set, fresh-Call, fresh-Builtin, fresh-Not}
+use Rattle.rml_clause.proofs.Callers.{EachOf, each-both, in-length, counts_matched, fresh_append, fresh-before-give, fresh-Set, fresh-Call, fresh-Builtin, fresh-Not, joined}
 use Rattle.rml_clauses.specs.Agrees.{callee_agrees, goal_agrees_at, goal_agrees}
-use Rattle.rml_clauses.proofs.Rows.{joined, every}
+use Rattle.rml_clauses.proofs.Rows.{every}
 use Rattle.rml_clauses.proofs.Terms.{Declares, var-fits, expression-fits, pattern-fits}
 
 -- ---- variables

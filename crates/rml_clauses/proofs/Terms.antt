@@ -26,7 +26,8 @@ use Rattle.rml_fol.specs.declared.terms.Expression.TheVariants as expression
 use Rattle.rml_fol.specs.Fits as made
 use Rattle.rml_fol.specs.Fits.{Signatures, is_just, literal_fits, pattern_fits_at, expression_fits_at, expression_fits}
 use Rattle.rml_clause.specs.Plain.{literal_of, pattern_at, pattern_of, expression_at, expression_of}
-use Rattle.rml_clauses.proofs.Rows.{joined, every, every-made}
+use Rattle.rml_clause.proofs.Callers.{joined}
+use Rattle.rml_clauses.proofs.Rows.{every, every-made}
 
 -- ---- names and literals
 

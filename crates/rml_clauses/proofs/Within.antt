@@ -23,7 +23,8 @@ use Rattle.rml_resolved.specs.Size as size
 use Rattle.rml_resolved.specs.Size.{pattern_size, exp_size, goal_size, rule_size}
 use Rattle.rml_resolved.proofs.Callers.{both}
 use Rattle.rml_clause.specs.Within.{pattern_within_at, pattern_within, patterns_within, expression_within_at, expression_within, expressions_within, callee_within, goal_within_at, goal_within, goals_within, rule_within}
-use Rattle.rml_clauses.proofs.Rows.{joined, every, every-more, mapped-more, lengths-few, row-few}
+use Rattle.rml_clause.proofs.Callers.{joined}
+use Rattle.rml_clauses.proofs.Rows.{every, every-more, mapped-more, lengths-few, row-few}
 
 -- ---- below a limit
 

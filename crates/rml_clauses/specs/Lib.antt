@@ -3,3 +3,4 @@ pub mod Meaning
 pub mod Tables
 pub mod Ready
 pub mod Facts
+pub mod Paths

@@ -8,6 +8,7 @@ ghost use Rattle.rml_fol.specs.declared.parts.Parts.{Parts};
 ghost use Rattle.rml_fol.specs.Runs.{runs_of};
 ghost use Rattle.rml_clauses.specs.Agrees.{counts_agree};
 ghost use Rattle.rml_clauses.specs.Facts.{KeepsFacts};
+ghost use Rattle.rml_clauses.specs.Paths.{AreNarrow};
 ghost use Rattle.rml_clauses.specs.Tables.{AreTablesOf};
 
 /// Where no search of a program is Wrong and its counts agree, tables that are made of it mean the same and cost no more.
@@ -18,4 +19,9 @@ pub fn tables_are_light()
 /// And they keep what a program in clause form keeps of its tables.
 pub fn tables_keep_facts()
     ensures { (p : Program) (q : Parts) → IsTrue (counts_agree p) → AreTablesOf p q → KeepsFacts q }
+{}
+
+/// And what is met on the way from one step to the next weighs no more than a step of the search.
+pub fn tables_are_narrow()
+    ensures { (p : Program) (q : Parts) → IsTrue (counts_agree p) → AreTablesOf p q → AreNarrow p q }
 {}

@@ -5,6 +5,7 @@ ghost use Rattle.rml_base.specs.Light.{Light};
 ghost use Rattle.rml_search.specs.Runs.{runs_of as searched_runs};
 ghost use Rattle.rml_fol.specs.Runs.{runs_of};
 ghost use Rattle.rml_clauses.specs.Meaning.{HasMeaning};
+ghost use Rattle.rml_clauses.specs.Paths.{AreNarrow};
 ghost use Rattle.rml_clauses.specs.Tables.{AreTablesOf};
 
 use crate::tables::tables_of;
@@ -17,6 +18,7 @@ use std::alloc::Global;
 pub fn clauses(alloc: Global, program: &Program) -> Result<Fol, Memory>
     requires { HasMeaning program.now }
     ensures tables { IfOk result (λ f. AreTablesOf program.now f.parts) }
+    ensures narrow { IfOk result (λ f. AreNarrow program.now f.parts) }
     ensures light { IfOk result (λ f. Light (searched_runs program.now) (runs_of f.parts)) }
 {
     let parts = tables_of(alloc, program)?;

@@ -2,11 +2,10 @@
 -- receives, and a body is handed as many. What is bound is new there, and so is what is named: it does not stand for something already.
 use Rattle.std.specs.Prelude.{ℕ, Bool, true, false, ◌&&◌, ◌==◌, if◌then◌else◌, not, nat_lt, List, [], ◌∷◌, map, length, Option, Some, None, is_none, slice_get}
 use Rattle.std.specs.List.{list_all}
-use Rattle.rml_fol.specs.declared.terms.Expression.{Expression, fold-Expression}
-use Rattle.rml_fol.specs.declared.terms.Expression.TheOpen.{Expression-F}
 use Rattle.rml_fol.specs.declared.statements.Callee.{Callee}
 use Rattle.rml_fol.specs.declared.statements.Callee.TheVariants as callee
-use Rattle.rml_fol.specs.Fits.{Signatures, is_just, takes_and_gives, every}
+use Rattle.rml_fol.specs.Fits.{Signatures, is_just, takes_and_gives}
+use Rattle.rml_fol.specs.Scoped.{with_var as one_more, knows}
 use Rattle.rml_cps.specs.declared.statements.Continuation.{Continuation}
 use Rattle.rml_cps.specs.declared.statements.Continuation.TheVariants as continuation
 use Rattle.rml_cps.specs.declared.statements.Stmt.{Stmt, fold-Stmt}
@@ -34,7 +33,7 @@ abbrev pub at_beginning : ℕ → ℕ → InScope
 at_beginning params results = record { vars = λ x. nat_lt x params; successes = own_success results; failures = own_failure; bodies = λ j. None }
 
 abbrev pub with_var : ℕ → InScope → InScope
-with_var x s = record s { vars = λ y. if y == x then true else s.vars y }
+with_var x s = record s { vars = one_more x s.vars }
 
 abbrev pub with_success : ℕ → ℕ → InScope → InScope
 with_success k values s = record s { successes = λ c. if is_named k c then Some values else s.successes c }
@@ -56,20 +55,6 @@ binds (x ∷ xs) next s = not (s.vars x) && binds xs next (with_var x s)
 
 abbrev pub all_known : List ℕ → InScope → Bool
 all_known xs s = list_all s.vars xs
-
-abbrev pub knows_at : (ℕ → Bool) → Expression-F Bool → Bool
-knows_at known (Expression-F.Lit l) = true
-knows_at known (Expression-F.Var x) = known x
-knows_at known (Expression-F.Val k) = true
-knows_at known (Expression-F.Rel r) = true
-knows_at known (Expression-F.Con c es) = every es
-knows_at known (Expression-F.Tuple es) = every es
-knows_at known (Expression-F.List es) = every es
-knows_at known (Expression-F.Cons es) = every es
-
--- whether all variables of an expression are known
-abbrev pub knows : (ℕ → Bool) → Expression → Bool
-knows known = fold-Expression Bool (knows_at known)
 
 -- a relation that takes so many values and gives as many as are received; of what a variable stands for the run alone tells
 abbrev pub call_fits : Signatures → InScope → ℕ → Callee → Option ℕ → Bool

@@ -13,4 +13,6 @@ pub mod Fits
 pub mod Ends
 pub mod Gives
 pub mod Size
+pub mod Scoped
+pub mod Paid
 pub mod Acts

@@ -1,5 +1,6 @@
--- What a pattern of clause form matches, and how many variables it binds.
-use Rattle.std.specs.Prelude.{ℕ, ◌+◌, sum}
+-- What a pattern of clause form matches, and which variables it binds.
+use Rattle.std.specs.Prelude.{ℕ, ◌+◌, List, [], ◌∷◌, sum}
+use Rattle.std.specs.List.{concat}
 use Rattle.rml_value.specs.declared.value.Value.{Value, out-Value}
 use Rattle.rml_value.specs.declared.value.Value.TheOpen.{Value-F}
 use Rattle.rml_terms.specs.declared.state.Matched.{Matched}
@@ -29,6 +30,20 @@ match_at (Pattern-F.Bind x p) v env = p v (bind x v env)
 -- the bindings of the pattern's variables behind those that stood, or that it does not match, or Wrong
 abbrev pub matching : Pattern → Matcher
 matching = fold-Pattern Matcher match_at
+
+abbrev pub bound_at : Pattern-F (List ℕ) → List ℕ
+bound_at Pattern-F.Any = []
+bound_at (Pattern-F.Lit l) = []
+bound_at (Pattern-F.Var x) = x ∷ []
+bound_at (Pattern-F.Con c xs) = concat xs
+bound_at (Pattern-F.Tuple xs) = concat xs
+bound_at (Pattern-F.List xs) = concat xs
+bound_at (Pattern-F.Cons xs) = concat xs
+bound_at (Pattern-F.Bind x xs) = x ∷ xs
+
+-- the variables that a pattern binds, in the order in which it does
+abbrev pub bound : Pattern → List ℕ
+bound = fold-Pattern (List ℕ) bound_at
 
 abbrev pub binds_at : Pattern-F ℕ → ℕ
 binds_at Pattern-F.Any = 0

@@ -1,6 +1,8 @@
 -- How large programs in clause form are: what follows stays small by the tokens of the rules.
 use Rattle.std.specs.Prelude.{ℕ, Bool, ◌&&◌, ◌+◌, ◌*◌, nat_lt, nat_le, List, sum, sum_by}
 use Rattle.rml_fol.specs.declared.limits.TheConstants.{PER_TOKEN, WEIGHT}
+use Rattle.rml_fol.specs.declared.terms.Pattern.{Pattern, fold-Pattern}
+use Rattle.rml_fol.specs.declared.terms.Pattern.TheOpen.{Pattern-F}
 use Rattle.rml_fol.specs.declared.terms.Expression.{Expression, fold-Expression}
 use Rattle.rml_fol.specs.declared.terms.Expression.TheOpen.{Expression-F}
 use Rattle.rml_fol.specs.declared.statements.Stmt.{Stmt, fold-Stmt}
@@ -22,7 +24,20 @@ nodes_at _ = 1
 abbrev pub nodes : Expression → ℕ
 nodes = fold-Expression ℕ nodes_at
 
+abbrev pub pattern_nodes_at : Pattern-F ℕ → ℕ
+pattern_nodes_at (Pattern-F.Con c ns) = 1 + sum ns
+pattern_nodes_at (Pattern-F.Tuple ns) = 1 + sum ns
+pattern_nodes_at (Pattern-F.List ns) = 1 + sum ns
+pattern_nodes_at (Pattern-F.Cons ns) = 1 + sum ns
+pattern_nodes_at (Pattern-F.Bind x n) = 1 + n
+pattern_nodes_at _ = 1
+
+-- the patterns in a pattern, itself included
+abbrev pub pattern_nodes : Pattern → ℕ
+pattern_nodes = fold-Pattern ℕ pattern_nodes_at
+
 abbrev pub size_at : Stmt-F ℕ ℕ ℕ → ℕ
+size_at (Stmt-F.Match x p) = 1 + pattern_nodes p
 size_at (Stmt-F.Not block) = 1 + sum block
 size_at (Stmt-F.Or alternatives) = 1 + sum alternatives
 size_at (Stmt-F.Cond first second third) = 1 + sum first + sum second + sum third
@@ -36,7 +51,7 @@ alternative_size_at a = 1 + sum a.block
 abbrev pub case_size_at : Case-F ℕ ℕ ℕ → ℕ
 case_size_at k = 1 + sum k.block
 
--- the statements in a statement, itself included; an alternative and a case count as one
+-- the statements in a statement, itself included; an alternative and a case count as one, and so does each pattern in a `match`
 abbrev pub size : Stmt → ℕ
 size = fold-Stmt ℕ ℕ ℕ size_at alternative_size_at case_size_at
 
@@ -46,7 +61,7 @@ alternative_size = fold-Alternative ℕ ℕ ℕ size_at alternative_size_at case
 abbrev pub case_size : Case → ℕ
 case_size = fold-Case ℕ ℕ ℕ size_at alternative_size_at case_size_at
 
--- the statements, variables and bodies of a relation are at most `PER_TOKEN` for each token of its rules
+-- the statements with their patterns, the variables and the bodies of a relation are at most `PER_TOKEN` for each token of its rules
 abbrev pub relation_is_small : Relation → Bool
 relation_is_small r = nat_le (sum_by size r.body.stmts) (PER_TOKEN * r.tokens) && nat_le r.vars (PER_TOKEN * r.tokens) && nat_le r.bodies (PER_TOKEN * r.tokens)
 

@@ -1,7 +1,7 @@
-use Rattle.rml_base.proofs.LightLaws.{light_right}
+use Rattle.rml_base.proofs.Callers.{light_right}
 use Rattle.rml_search.specs.Runs as searched
 use Rattle.rml_fol.specs.Runs.{runs_of}
-use Rattle.rml_clauses.proofs.Made.{tables-light}
+use Rattle.rml_clauses.proofs.Made.{tables-light, tables-narrow}
 use Rattle.rml_clauses.proofs.Kept.{keeps}
 use Rattle.rml_clauses.proofs.program.clauses.Goals as goal
 
@@ -17,8 +17,10 @@ invariant_of-result c =
       vals_fit = kept.vals_fit;
       relations_fit = kept.relations_fit;
       main_fits = kept.main_fits;
+      relations_scoped = kept.relations_scoped;
       blocks_end = kept.blocks_end;
       gives_fit = kept.gives_fit;
+      relations_paid = kept.relations_paid;
       relations_small = kept.relations_small;
       light = kept.light;
       never_wrong =
@@ -28,3 +30,6 @@ invariant_of-result c =
 
 pub returns-clause-light : goal.returns-clause-light
 returns-clause-light c = tables-light c.args.program.now c.in_ok-parts.parts c.requires.never_wrong c.requires.agrees c.in_ok-parts.ensures
+
+pub returns-clause-narrow : goal.returns-clause-narrow
+returns-clause-narrow c = tables-narrow c.args.program.now c.in_ok-parts.parts c.requires.agrees c.in_ok-parts.ensures
