@@ -7,8 +7,7 @@ use Rattle.rml_simulation.specs.declared.partial.Partial.TheVariants.{Yes, No, C
 use Rattle.rml_simulation.specs.Partial.{untraced, take_step, or_else, either, followed, traced}
 use Rattle.rml_simulation.specs.Simulates.{Credit, Simulates}
 use Rattle.rml_simulation.specs.Moves.{more_weighed}
-use Rattle.rml_simulation.proofs.Followed.{followed_after, followed_step, traced_none}
-use Rattle.rml_simulation.proofs.SimulatesMoves.{weaken, lower, both_step_here, new_weigh, equal, old_wrong}
+use Rattle.rml_simulation.proofs.Callers.{both_step_here, equal, followed_after, followed_step, lower, new_weigh, old_wrong, traced_none, weaken}
 use Rattle.rml_value.specs.declared.value.Value.{Value}
 use Rattle.rml_builtin.specs.declared.applied.Answer.{Answer}
 use Rattle.rml_builtin.specs.Applied.{Store}

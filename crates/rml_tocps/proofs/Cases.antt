@@ -7,12 +7,13 @@ use Rattle.rml_simulation.specs.declared.partial.Partial.TheVariants.{GoneWrong}
 use Rattle.rml_simulation.specs.Partial.{untraced, followed}
 use Rattle.rml_simulation.specs.Simulates.{Credit, Simulates}
 use Rattle.rml_simulation.specs.Moves.{more_weighed}
-use Rattle.rml_simulation.proofs.SimulatesMoves.{old_wrong}
+use Rattle.rml_simulation.proofs.Callers.{old_wrong}
 use Rattle.rml_value.specs.declared.value.Value.{Value, out-Value}
 use Rattle.rml_value.specs.declared.value.Value.TheOpen.{Value-F}
 use Rattle.rml_builtin.specs.Applied.{Store}
 use Rattle.rml_terms.specs.Env.{Env, bind, look}
 use Rattle.rml_terms.specs.Calling.{RelationCalls, with_value}
+use Rattle.rml_terms.proofs.Callers.{look_kept}
 use Rattle.rml_fol.specs.Expressions.{Vals}
 use Rattle.rml_fol.specs.Statements as clauses
 use Rattle.rml_fol.specs.Statements.{Given, Bodies, bind_all, is_of_kind, has_tag, arguments_at}
@@ -21,7 +22,7 @@ use Rattle.rml_cps.specs.Statements.{OnAnswer, RelationActs, Scope, Doing, with_
 use Rattle.rml_tocps.specs.Carries.{done, Agrees, take, take_all, AreNew, Below, Fails}
 use Rattle.rml_tocps.specs.Blocks.{OldBlock, NewBlock, Follows, BlockCarries}
 use Rattle.rml_tocps.specs.Cases.{new_fields, BothCase, old_case, new_case, EachCarries, old_switch, new_switch}
-use Rattle.rml_tocps.proofs.Environments.{bind_agrees, look_kept}
+use Rattle.rml_tocps.proofs.Environments.{bind_agrees}
 use Rattle.rml_tocps.proofs.Moves.{both_if}
 
 -- what arguments there are is what `field` finds, from this number on

@@ -1,13 +1,14 @@
 -- What variables stand for in both forms: what is found stays found as more is bound, and expressions are worth the same.
-use Rattle.std.proofs.Common.{◌≡◌, ℕ, Bool, true, false, List, [], ◌∷◌, map, Option, Some, None, refl, sym, ap, subst, ◌∙◌, eq-eqb}
-use Rattle.std.specs.Prelude.{◌==◌, if◌then◌else◌, option_map, option_and_then}
+use Rattle.std.proofs.Common.{◌≡◌, ℕ, Bool, true, false, List, [], ◌∷◌, map, Option, Some, None, refl, sym, subst, ◌∙◌}
+use Rattle.std.specs.Prelude.{◌==◌, if◌then◌else◌}
 use Rattle.std.proofs.lemmas.Bool.{eqb-true}
 use Rattle.rml_value.specs.declared.value.Value.{Value}
 use Rattle.rml_value.specs.declared.value.Value.TheVariants as value
 use Rattle.rml_value.specs.Lists.{list_of}
 use Rattle.rml_terms.specs.Env.{Env, bind, look, values_in}
-use Rattle.rml_terms.specs.Evaluating.{Evaluation, with_first, all_of, chain_of}
+use Rattle.rml_terms.specs.Evaluating.{Evaluation, all_of, chain_of}
 use Rattle.rml_terms.specs.Calling.{relation_in}
+use Rattle.rml_terms.proofs.Callers.{Worth, or_else, known_kept, new_kept, look-bind, worth_self, worth_from, worth_map, worth_then, worth_first}
 use Rattle.rml_fol.specs.declared.terms.Expression.{Expression, map-Expression, roll-Expression, fold-roll-Expression, ind-Expression}
 use Rattle.rml_fol.specs.declared.terms.Expression.TheOpen.{Expression-F}
 use Rattle.rml_fol.specs.declared.statements.Callee.{Callee}
@@ -18,47 +19,15 @@ use Rattle.rml_tocps.specs.Carries.{Agrees, take, take_all, AreNew}
 
 -- ---- one variable more
 
-or_else : Option Value → Option Value → Option Value
-or_else None p = p
-or_else (Some v) p = Some v
-
--- what was bound first counts
-look-bind : (x y : ℕ) (v : Value) (env : Env) → look x (bind y v env) ≡ or_else (look x env) (if x == y then Some v else None)
-unfolding or_else
-look-bind x y v [] = refl
-look-bind x y v (b ∷ env) = in_case (x == b.var) b.value (look x (bind y v env)) (look x env) (if x == y then Some v else None) (look-bind x y v env)
-  where
-    in_case : (t : Bool) (w : Value) (o p q : Option Value) → o ≡ or_else p q → (if t then Some w else o) ≡ or_else (if t then Some w else p) q
-    in_case true w o p q e = refl
-    in_case false w o p q e = e
-
-known_kept : (o q : Option Value) (v : Value) → o ≡ Some v → or_else o q ≡ Some v
-unfolding or_else
-known_kept o q v e = subst (λ (p : Option Value). or_else p q ≡ Some v) (sym e) refl
-
-new_kept : (o q p : Option Value) → o ≡ None → q ≡ p → or_else o q ≡ p
-unfolding or_else
-new_kept o q p e d = subst (λ (r : Option Value). or_else r q ≡ p) (sym e) d
-
 found_case : (o o' : Option Value) (t : Bool) (v w : Value) → ((u : Value) → o ≡ Some u → o' ≡ Some u) → (t ≡ true → o' ≡ None)
     → or_else o (if t then Some v else None) ≡ Some w → or_else o' (if t then Some v else None) ≡ Some w
-unfolding or_else
 found_case (Some u) o' t v w old fresh e = known_kept o' (if t then Some v else None) w (old u refl ∙ e)
 found_case None o' true v w old fresh e = new_kept o' (Some v) (Some w) (fresh refl) e
 found_case None o' false v w old fresh e = absurd (cc)
 
 new_case : (t b : Bool) (o : Option Value) (v : Value) → (b ≡ false → o ≡ None) → (if t then true else b) ≡ false → or_else o (if t then Some v else None) ≡ None
-unfolding or_else
 new_case true b o v none e = absurd (cc)
 new_case false b o v none e = new_kept o None None (none e) refl
-
--- what stood for something stands for it still
-pub look_kept : (x y : ℕ) (v w : Value) (env : Env) → look x env ≡ Some w → look x (bind y v env) ≡ Some w
-look_kept x y v w env e = look-bind x y v env ∙ known_kept (look x env) (if x == y then Some v else None) w e
-
--- what stood for nothing stands for what is bound to it
-pub look_new : (x : ℕ) (v : Value) (env : Env) → look x env ≡ None → look x (bind x v env) ≡ Some v
-look_new x v env e = look-bind x x v env ∙ new_kept (look x env) (if x == x then Some v else None) (Some v) e (ap (λ (b : Bool). if b then Some v else None) (eq-eqb x x refl))
 
 module _ (taken : ℕ → Bool) (base env env' : Env) (x : ℕ) (v : Value) (fresh : taken x ≡ false) (h : Agrees taken base env env') where
   none_at : (y : ℕ) → (y == x) ≡ true → look y env' ≡ None
@@ -85,35 +54,9 @@ module _ (taken : ℕ → Bool) (base env env' : Env) (x : ℕ) (v : Value) (fre
 
 -- ---- values where there are values
 
--- where the first is there, the second is the same
-abbrev pub Worth : {A : Type 0} → Option A → Option A → Type 0
-Worth None o = Unit {0}
-Worth (Some v) o = o ≡ Some v
-
-worth_self : {A : Type 0} (o : Option A) → Worth o o
-worth_self None = tt
-worth_self (Some v) = refl
-
-worth_of : {A : Type 0} (o o' : Option A) → ((v : A) → o ≡ Some v → o' ≡ Some v) → Worth o o'
-worth_of None o' h = tt
-worth_of (Some v) o' h = h v refl
-
-worth_map : {A C : Type 0} (f : A → C) (o o' : Option A) → Worth o o' → Worth (option_map f o) (option_map f o')
-worth_map f None o' h = tt
-worth_map f (Some v) o' h = ap (option_map f) h
-
-worth_then : {A C : Type 0} (f : A → Option C) (o o' : Option A) → Worth o o' → Worth (option_and_then f o) (option_and_then f o')
-worth_then f None o' h = tt
-worth_then {A = A} f (Some v) o' h = subst (λ (p : Option A). Worth (f v) (option_and_then f p)) (sym h) (worth_self (f v))
-
-worth_first : {A : Type 0} (o o' : Option A) (p p' : Option (List A)) → Worth o o' → Worth p p' → Worth (with_first o p) (with_first o' p')
-worth_first None o' p p' h k = tt
-worth_first {A = A} (Some x) o' p p' h k =
-    subst (λ (q : Option A). Worth (option_map (λ rest. x ∷ rest) p) (with_first q p')) (sym h) (worth_map (λ rest. x ∷ rest) p p' k)
-
 module _ (taken : ℕ → Bool) (base env env' : Env) (h : Agrees taken base env env') where
   pub look_worth : (x : ℕ) → Worth (look x env) (look x env')
-  look_worth x = worth_of (look x env) (look x env') (h.looks x)
+  look_worth x = worth_from (look x env) (look x env') (h.looks x)
 
   pub bindings_worth : (xs : List ℕ) → Worth (bindings_of xs env) (bindings_of xs env')
   bindings_worth [] = refl

@@ -5,3 +5,10 @@ pub mod Blocks
 pub mod Relations
 pub mod Cases
 pub mod Matches
+pub mod Passing
+pub mod Examples
+pub mod Parts
+pub mod Patterns
+pub mod Choices
+pub mod Wholes
+pub mod Switches

@@ -9,7 +9,7 @@ use Rattle.rml_simulation.specs.declared.partial.Partial.TheVariants.{No}
 use Rattle.rml_simulation.specs.Partial.{untraced, followed}
 use Rattle.rml_simulation.specs.Simulates.{Credit, Simulates}
 use Rattle.rml_simulation.specs.Moves.{more_weighed}
-use Rattle.rml_simulation.proofs.SimulatesMoves.{weaken, new_weigh, old_wrong, equal}
+use Rattle.rml_simulation.proofs.Callers.{equal, new_weigh, old_wrong, weaken}
 use Rattle.rml_value.specs.declared.value.Value.{Value, out-Value}
 use Rattle.rml_value.specs.declared.value.Value.TheOpen.{Value-F}
 use Rattle.rml_builtin.specs.Applied.{Store}
@@ -19,6 +19,7 @@ use Rattle.rml_terms.specs.Env.{Env, bind, look}
 use Rattle.rml_terms.specs.Matching.{Matcher, then_match, match_in_turn, match_all, when, match_con_at, match_con, match_tuple_at}
 use Rattle.rml_terms.specs.Evaluating.{Evaluation}
 use Rattle.rml_terms.specs.Calling.{with_value}
+use Rattle.rml_terms.proofs.Callers.{look_kept, look_new}
 use Rattle.rml_fol.specs.declared.terms.Literal.{Literal}
 use Rattle.rml_fol.specs.declared.terms.Literal.TheVariants as literal
 use Rattle.rml_fol.specs.declared.terms.Expression.{fold-roll-Expression}
@@ -37,7 +38,7 @@ use Rattle.rml_cps.specs.Statements.{RelationActs, Scope, Doing, with_known, fai
 use Rattle.rml_tocps.specs.Carries.{Agrees, take, Fails, Carries}
 use Rattle.rml_tocps.specs.Pass.{New, old_stmt, both_new, new_set}
 use Rattle.rml_tocps.specs.Matches.{Extends, MatchGoes, Matches, new_test, PartOf, PartMatches, EachPart, parts_taken, new_parts, matchers, new_field}
-use Rattle.rml_tocps.proofs.Environments.{bind_agrees, extra_agrees, look_kept, look_new}
+use Rattle.rml_tocps.proofs.Environments.{bind_agrees, extra_agrees}
 use Rattle.rml_tocps.proofs.Cases.{AreArguments, next_arguments}
 use Rattle.rml_tocps.proofs.Moves.{fails_richer, old_weight, both_fail}
 

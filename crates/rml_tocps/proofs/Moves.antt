@@ -7,20 +7,20 @@ use Rattle.rml_simulation.specs.declared.partial.Partial.TheVariants.{No}
 use Rattle.rml_simulation.specs.Partial.{untraced, followed, traced}
 use Rattle.rml_simulation.specs.Simulates.{Credit, Simulates}
 use Rattle.rml_simulation.specs.Moves.{more_weighed}
-use Rattle.rml_simulation.proofs.Followed.{followed_after, traced_none, traced_weight, both_traced}
-use Rattle.rml_simulation.proofs.SimulatesMoves.{weaken, lower, both_step_here, old_weigh, new_weigh, equal, old_wrong}
+use Rattle.rml_simulation.proofs.Callers.{both_step_here, both_traced, equal, followed_after, lower, new_weigh, old_weigh, old_wrong, traced_none, traced_weight, weaken}
 use Rattle.rml_builtin.specs.declared.applied.Answer.{Answer}
 use Rattle.rml_builtin.specs.declared.applied.Applied.{Applied}
 use Rattle.rml_builtin.specs.declared.applied.Applied.TheVariants as applied
 use Rattle.rml_builtin.specs.Applied.{Store}
 use Rattle.rml_terms.specs.Env.{Env}
 use Rattle.rml_terms.specs.Calling.{with_value, trace_of_built_in}
+use Rattle.rml_terms.proofs.Callers.{Worth}
 use Rattle.rml_fol.specs.Statements as clause
 use Rattle.rml_fol.specs.Statements.{Given, weight_alone, weighing, bind_all}
 use Rattle.rml_cps.specs.declared.statements.Continuation.{Continuation}
 use Rattle.rml_cps.specs.Statements.{Scope, with_known, fails_to, received, from_built_in}
 use Rattle.rml_tocps.specs.Carries.{Agrees, take_all, AreNew, Fails}
-use Rattle.rml_tocps.proofs.Environments.{Worth, BothBound, bind_all_agrees}
+use Rattle.rml_tocps.proofs.Environments.{BothBound, bind_all_agrees}
 
 -- more to spare is no harm
 pub richer : (i : ℕ) (c : Credit) (s t : ℕ) (f g : Rest) → t ≤ s → Simulates i (more_weighed t c) f g → Simulates i (more_weighed s c) f g

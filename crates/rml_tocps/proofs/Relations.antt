@@ -11,9 +11,7 @@ use Rattle.rml_simulation.specs.Partial.{untraced, then_go, followed, traced}
 use Rattle.rml_simulation.specs.Carries.{SimulatesAct, kept, acted_before, CarriesTold}
 use Rattle.rml_simulation.specs.Simulates.{Credit, nothing, Simulates}
 use Rattle.rml_simulation.specs.Moves.{more_weighed}
-use Rattle.rml_simulation.proofs.Carried.{told_simulate}
-use Rattle.rml_simulation.proofs.Followed.{followed_after, followed_step, traced_none}
-use Rattle.rml_simulation.proofs.SimulatesMoves.{weaken, both_step_here, equal, itself, old_wrong, light}
+use Rattle.rml_simulation.proofs.Callers.{both_step_here, equal, followed_after, followed_step, itself, light, old_wrong, told_simulate, traced_none, weaken}
 use Rattle.rml_value.specs.declared.value.Value.{Value}
 use Rattle.rml_builtin.specs.declared.applied.Answer.{Answer}
 use Rattle.rml_terms.specs.Env.{look}

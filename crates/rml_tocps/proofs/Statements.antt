@@ -7,8 +7,7 @@ use Rattle.rml_simulation.specs.declared.partial.Partial.TheVariants.{Yes, No, C
 use Rattle.rml_simulation.specs.Partial.{untraced, take_step, then_go, unless, followed, traced}
 use Rattle.rml_simulation.specs.Simulates.{Credit, Simulates}
 use Rattle.rml_simulation.specs.Moves.{more_weighed}
-use Rattle.rml_simulation.proofs.Followed.{followed_after, followed_step, followed_then}
-use Rattle.rml_simulation.proofs.SimulatesMoves.{weaken, lower, both_step, equal}
+use Rattle.rml_simulation.proofs.Callers.{both_step, equal, followed_after, followed_step, followed_then, lower, weaken}
 use Rattle.rml_value.specs.Same.{same}
 use Rattle.rml_builtin.specs.declared.applied.Answer.{Answer}
 use Rattle.rml_builtin.specs.BuiltIns.{apply_at}

@@ -24,6 +24,8 @@ ghost use Rattle.rml_cps.specs.declared.parts.Parts.{Parts};
 ghost use Rattle.rml_cps.specs.Statements.{block};
 ghost use Rattle.rml_cps.specs.Runs.{runs_of};
 ghost use Rattle.rml_tocps.specs.Blocks.{OldBlock, NewBlock, goto_spare, BlockCarries, FirstCarries, old_cond, old_before, new_before, old_last, new_last, old_or, old_others, new_or, old_body, new_body, first_taken, RelationCarries, AreCarried};
+ghost use Rattle.rml_fol.specs.declared.parts.Name.{Name};
+ghost use Rattle.rml_tocps.specs.Examples.{in_clauses, in_continuations};
 ghost use Rattle.rml_tocps.specs.Cases.{BothCase, EachCarries, old_switch, new_switch};
 ghost use Rattle.rml_value.specs.declared.value.Value.{out-Value};
 ghost use Rattle.rml_terms.specs.declared.state.Matched.TheVariants as matched;
@@ -97,4 +99,9 @@ pub fn patterns_match()
     ensures matches { (h : Continuation) (s t : ℕ) (p q : ℕ → Bool) (x : ℕ) (pattern : Pattern) (new : New) → t ≤ clause.match_weight (binds pattern) + s → Matches h p q (matching pattern) x new
         → Carries h s p t q (old_stmt (Clause-F.Match x pattern)) new }
     ensures literals { (h : Continuation) (p : ℕ → Bool) (l : Literal) (x : ℕ) → Matches h p p (λ v env. match_literal l (out-Value v) env) x (new_test (tag.Lit l) x h) }
+{}
+
+/// A relation that begins with alternatives is carried: what a path spares where it begins is enough for them.
+pub fn alternatives_are_carried()
+    ensures { (vals : Vals) (name : Name) → RelationCarries vals (in_clauses name) (in_continuations name) }
 {}

@@ -1,4 +1,7 @@
-//! From clauses to continuations: the lemmas of the pass, a clause a statement. The pass itself is not built.
+//! From clauses to continuations: the lemmas of the pass, a clause a statement, and what holds of the lines that it makes. The pass itself is
+//! not built.
 #![tactic(auto)]
 
 pub mod laws;
+pub mod made;
+mod pass;

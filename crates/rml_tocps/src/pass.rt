@@ -1,0 +1,3 @@
+//! What the pass keeps while it goes through a relation.
+
+mod numbers;
