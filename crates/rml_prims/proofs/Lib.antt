@@ -17,3 +17,4 @@ pub mod SpelledLists
 pub mod ReadNumerals
 pub mod PackedTexts
 pub mod PackedRows
+pub mod Shifted

@@ -1,13 +1,14 @@
 -- Texts that are packed into cells word by word: of two texts, and of a list of characters.
 use Rattle.std.proofs.Common.{◌≡◌, ◌≢◌, ℕ, suc, ◌+◌, ◌-◌, ◌*◌, ◌<◌, ◌≤◌, ◌^◌, List, [], ◌∷◌, ◌++◌, map, length, get_or, drop, refl, sym, ap, subst, ◌∙◌, arith, append_assoc, length-append}
 use Rattle.std.specs.Prelude.{ℤ}
-use Rattle.std.proofs.lemmas.List.{drop-drop, get_or-append_right, length-map, map-append}
+use Rattle.std.specs.Int.{w64, cast_signed}
+use Rattle.std.proofs.lemmas.List.{drop-drop, get_or-append_right, get_or-drop, get_or_append_left, length-map, map-append}
 use Rattle.rml_heap.specs.declared.cell.Cell.{Cell}
 use Rattle.rml_heap.specs.HeapState.{HeapState, HasRoom}
 use Rattle.rml_heap.specs.Form.{address}
 use Rattle.rml_heap.specs.Text.{packed, text_cells, word_cell, word_of_bytes, words_for}
 use Rattle.rml_heap.specs.Reading.{cell_at}
-use Rattle.rml_heap.proofs.Callers.{length-packed, packed-more}
+use Rattle.rml_heap.proofs.Callers.{length-packed, packed-more, word-same}
 use Rattle.rml_prims.specs.Shapes.{AreChars, AreJoined, AtCons, IsCons, IsList, char_cell, text_head}
 use Rattle.rml_prims.proofs.ListCells.{cons-place, list-more}
 use Rattle.rml_prims.proofs.SpelledLists.{text-more}
@@ -164,3 +165,22 @@ chars-word cells c bytes k h =
     let C : List ℕ → Type 0 = λ bs. AreChars cells c bs in
     let far : 8 * k + 8 ≡ 8 * (k + 1) = omega arith in
     subst C (drop-drop 8 (8 * k) bytes ∙ ap (λ n. drop n bytes) far) h
+
+-- ---- a word that stands in one of two texts
+
+pub word-first : (cells : List Cell) (at size m n : ℕ) (bytes : List ℕ) (i : ℕ) → (h : AreJoined cells at size m n bytes) → i + 8 ≤ size → word_of_bytes (drop i h.left) ≡ word_of_bytes (drop i bytes)
+unfolding word_of_bytes
+word-first cells at size m n bytes i h inside =
+    let long = h.first.long in
+    ap (cast_signed w64) (word-same (drop i h.left) (drop i bytes) (λ j below.
+    let before : i + j < length h.left = omega (arith, inside, below, long) in
+    get_or-drop i h.left j 0 ∙ sym (get_or_append_left h.left h.right 0 (i + j) before) ∙ ap (λ bs. get_or bs (i + j) 0) (sym h.whole) ∙ sym (get_or-drop i bytes j 0)))
+
+pub word-second : (cells : List Cell) (at size m n : ℕ) (bytes : List ℕ) (i : ℕ) → (h : AreJoined cells at size m n bytes) → size ≤ i → word_of_bytes (drop (i - size) h.right) ≡ word_of_bytes (drop i bytes)
+unfolding word_of_bytes
+word-second cells at size m n bytes i h past =
+    ap (cast_signed w64) (word-same (drop (i - size) h.right) (drop i bytes) (λ j below.
+    let beyond : size ≤ i + j = omega (arith, past) in
+    let place : i - size + j ≡ i + j - size = omega (arith, past) in
+    get_or-drop (i - size) h.right j 0 ∙ ap (λ k. get_or h.right k 0) place ∙ sym (get_or-append_right h.left h.right size (i + j) 0 h.first.long beyond)
+    ∙ ap (λ bs. get_or bs (i + j) 0) (sym h.whole) ∙ sym (get_or-drop i bytes j 0)))

@@ -7,7 +7,7 @@ ghost use Rattle.rml_prims.specs.Shapes.{AreChars, AreJoined};
 ghost use Rattle.rml_prims.specs.Found.{IsPlaced};
 
 use crate::lists::{item_of, list_size, tail_of};
-use crate::texts::{TextBlock, byte_at, words_for};
+use crate::texts::{TextBlock, byte_at, word_from, words_for};
 use crate::words::{block, int, room_for, text_head};
 use rml_heap::{BLOCK, Cell, Full, Heap, count_of};
 
@@ -25,8 +25,8 @@ fn joined_byte(heap: &Heap, first: TextBlock, second: TextBlock, i: u32) -> u8
     }
 }
 
-/// A word of two texts, one after the other.
-fn joined_word(heap: &Heap, first: TextBlock, second: TextBlock, k: u32) -> i64
+/// The word of two texts, one after the other, in which the first ends and the second begins, byte by byte.
+fn middle_word(heap: &Heap, first: TextBlock, second: TextBlock, k: u32) -> i64
     requires texts { (bytes : List ℕ) × AreJoined heap.now.values first.at first.size second.at second.size bytes }
     requires small { k < 2 ^ 28 }
     ensures { (bytes : List ℕ) → AreJoined heap.now.values first.at first.size second.at second.size bytes → result ≡ word_of_bytes (drop (8 * k) bytes) }
@@ -36,6 +36,22 @@ fn joined_word(heap: &Heap, first: TextBlock, second: TextBlock, k: u32) -> i64
         word[i] = joined_byte(heap, first, second, 8 * k + i as u32);
     }
     i64::from_le_bytes(word)
+}
+
+/// A word of two texts, one after the other.
+fn joined_word(heap: &Heap, first: TextBlock, second: TextBlock, k: u32) -> i64
+    requires texts { (bytes : List ℕ) × AreJoined heap.now.values first.at first.size second.at second.size bytes }
+    requires small { k < 2 ^ 27 }
+    ensures { (bytes : List ℕ) → AreJoined heap.now.values first.at first.size second.at second.size bytes → result ≡ word_of_bytes (drop (8 * k) bytes) }
+{
+    let at = 8 * k;
+    if at + 8 <= first.size {
+        word_from(heap, first, at)
+    } else if first.size <= at {
+        word_from(heap, second, at - first.size)
+    } else {
+        middle_word(heap, first, second, k)
+    }
 }
 
 /// Adds the cells of two texts, one after the other, for which there is room.

@@ -1,6 +1,7 @@
 //! Texts in cells: a head with the count of bytes, and the bytes, packed eight in a cell.
 
 ghost use Rattle.std.specs.Prelude.{ℕ, ◌≡◌, ◌<◌, ◌*◌, ◌/◌, ◌^◌, List, drop, slice_index};
+ghost use Rattle.std.specs.Int.{w64, from_le_bytes};
 ghost use Rattle.rml_heap.specs.Text.{word_of_bytes, words_for as words_for_bytes};
 ghost use Rattle.rml_heap.specs.declared.cell.Cell.{Cell};
 ghost use Rattle.rml_prims.specs.Shapes.{IsText};
@@ -51,4 +52,40 @@ pub fn byte_at(heap: &Heap, text: TextBlock, i: u32) -> u8
 {
     let word = word_at(heap, text, i).to_le_bytes();
     word[(i % 8) as usize]
+}
+
+/// A word of a text by its number, as bits, and 0 past the end.
+fn bits_at(heap: &Heap, text: TextBlock, k: u32) -> u64
+    requires text { (c : Cell) × (bytes : List ℕ) × IsText heap.now.values c text.at text.size bytes }
+    requires small { k < 2 ^ 28 }
+    ensures { (c : Cell) (bytes : List ℕ) → IsText heap.now.values c text.at text.size bytes → result ≡ from_le_bytes w64 (drop (8 * k) bytes) }
+{
+    if 8 * k < text.size {
+        word_at(heap, text, 8 * k).cast_unsigned()
+    } else {
+        0
+    }
+}
+
+/// The word that begins so many bytes into a word that another follows.
+fn across(first: u64, second: u64, bytes: u32) -> u64
+    requires { bytes < 8 }
+    ensures { (bs : List ℕ) → ((i : ℕ) → slice_index bs i < 256) → first ≡ from_le_bytes w64 bs → second ≡ from_le_bytes w64 (drop 8 bs) → result ≡ from_le_bytes w64 (drop bytes bs) }
+{
+    if bytes == 0 {
+        first
+    } else {
+        second << (64 - 8 * bytes) | first >> (8 * bytes)
+    }
+}
+
+/// The word of eight bytes of a text, from one of them on. Bytes past the end are 0.
+pub fn word_from(heap: &Heap, text: TextBlock, i: u32) -> i64
+    requires text { (c : Cell) × (bytes : List ℕ) × IsText heap.now.values c text.at text.size bytes }
+    requires small { i < 2 ^ 30 }
+    ensures { (c : Cell) (bytes : List ℕ) → IsText heap.now.values c text.at text.size bytes → result ≡ word_of_bytes (drop i bytes) }
+{
+    let first = bits_at(heap, text, i / 8);
+    let second = bits_at(heap, text, i / 8 + 1);
+    across(first, second, i % 8).cast_signed()
 }

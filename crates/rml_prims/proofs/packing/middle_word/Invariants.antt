@@ -1,6 +1,6 @@
 use Rattle.std.proofs.Common.{◌≡◌, ℕ, ◌+◌, ◌*◌, ◌<◌, List, length, get_or}
 use Rattle.rml_prims.specs.Shapes.{AreJoined}
-use Rattle.rml_prims.proofs.packing.joined_word.Given as goal
+use Rattle.rml_prims.proofs.packing.middle_word.Given as goal
 
 abbrev pub invariant-loop-i : goal.invariant-loop-i
 invariant-loop-i l = record {
