@@ -1,0 +1,9 @@
+pub mod Remains
+pub mod ByInstruction
+pub mod MoreTurns
+pub mod Rising
+pub mod Pushed
+pub mod Variables
+pub mod Tried
+pub mod Written
+pub mod Callers

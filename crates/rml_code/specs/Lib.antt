@@ -1,0 +1,14 @@
+pub mod Frames
+pub mod Standing
+pub mod Laid
+pub mod Stretch
+pub mod Seen
+pub mod Effects
+pub mod Turns
+pub mod Opening
+pub mod Runs
+pub mod Remaining
+pub mod Growing
+pub mod Fits
+pub mod Text
+pub mod Sample
