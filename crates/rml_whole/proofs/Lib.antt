@@ -1,0 +1,2 @@
+pub mod MoreNames
+pub mod Callers

@@ -1,0 +1,10 @@
+pub mod Words
+pub mod Tokens
+pub mod Types
+pub mod Expressions
+pub mod Patterns
+pub mod Goals
+pub mod Texts
+pub mod Small
+pub mod Spelled
+pub mod Whole
