@@ -88,7 +88,7 @@ renewed h c taken old new made same b = record {
 none_carry : (h : Continuation) (c : ℕ) (taken : ℕ → Bool) → Carries h c taken c taken (old_front []) (λ vals news onward. onward)
 none_carry h c taken = record { by = λ vals olds news i below j ij d k f bodies scope base fails rest onward goes. goes j (omega arith) }
 
-under-more : (h : Continuation) (n m : ℕ) → n ≤ m → IsUnder h n → IsUnder h m
+pub under-more : (h : Continuation) (n m : ℕ) → n ≤ m → IsUnder h n → IsUnder h m
 under-more continuation.Own n m le u = tt
 under-more (continuation.Named k) n m le u = omega arith
 

@@ -1,0 +1,3 @@
+pub mod MadePatterns
+pub mod MadeStatements
+pub mod Wholes

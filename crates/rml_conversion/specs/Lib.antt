@@ -1,0 +1,4 @@
+pub mod Hand
+pub mod Patterns
+pub mod Statements
+pub mod Tables
