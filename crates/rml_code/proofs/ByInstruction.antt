@@ -22,7 +22,7 @@ use Rattle.rml_code.specs.declared.instructions.Instr.{Instr}
 use Rattle.rml_code.specs.declared.instructions.Instr.TheVariants as instr
 use Rattle.rml_code.specs.declared.state.State.{State}
 use Rattle.rml_code.specs.Frames.{register, constant, put, registers_of, success_frame, failure_frame, Failure, success_at, failure_at, label_at}
-use Rattle.rml_code.specs.Standing.{value_in, values_in, store_in}
+use Rattle.rml_prims.specs.Standing.{value_in, values_in, store_in}
 use Rattle.rml_code.specs.Seen.{Seen, seen_in}
 use Rattle.rml_code.specs.Stretch.{Full, Next, Behind, Jump, Turn, Stop, Stretch, goes, with_known, Answer as Answered, Failure as Failed}
 use Rattle.rml_code.specs.Effects.{behind, if_room, behind_with, otherwise, word_cell, con_head, tuple_head, with_block, part_of, saves, guards, resumed, retried, ends_with, runs_row, switches, entry_in, effect}

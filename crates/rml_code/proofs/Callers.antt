@@ -4,4 +4,3 @@ pub use Rattle.rml_code.proofs.ByInstruction.{by-Move, by-Word, by-Const, by-Fie
 pub use Rattle.rml_code.proofs.MoreTurns.{turns-count, turns-more}
 pub use Rattle.rml_code.proofs.Rising.{hops-enough}
 pub use Rattle.rml_code.proofs.Pushed.{frames-there, success-there, failure-there, success-label, failure-label}
-pub use Rattle.rml_code.proofs.Variables.{lvars-append, lvars-none, lvars-added, lvars-made, lvars-set}

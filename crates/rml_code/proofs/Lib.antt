@@ -3,7 +3,6 @@ pub mod ByInstruction
 pub mod MoreTurns
 pub mod Rising
 pub mod Pushed
-pub mod Variables
 pub mod Tried
 pub mod Written
 pub mod Callers

@@ -25,8 +25,9 @@ use Rattle.rml_code.specs.declared.instructions.Instr.TheVariants as instr
 use Rattle.rml_code.specs.declared.listing.Listing.{Listing}
 use Rattle.rml_code.specs.declared.state.State.{State}
 use Rattle.rml_code.specs.Frames.{register, put, registers_of, success_frame, failure_frame, Failure, success_at, failure_at, label_at}
-use Rattle.rml_code.specs.Standing.{value_in, values_in, store_in}
-use Rattle.rml_code.specs.Laid.{Results, results_laid}
+use Rattle.rml_prims.specs.Standing.{value_in, values_in, store_in}
+use Rattle.rml_prims.specs.Taken.{cells_taken}
+use Rattle.rml_prims.specs.Laid.{Results, results_laid}
 use Rattle.rml_code.specs.Seen.{Seen, seen_in, asked, is_same, is_alike}
 use Rattle.rml_code.specs.Stretch.{Next, Behind, Jump, Turn, Stop, Stretch, Answer as Answered, Full, goes, wrong, with_known, joined, then_jump, jump_at, behind_at}
 use Rattle.rml_code.specs.Effects.{behind, if_room, behind_with, otherwise, con_head, tuple_head, with_block, part_of, saves, guards, resumed, retried, answered, ends_with, runs_row, chosen, switches, entry_in, effect}
@@ -100,7 +101,7 @@ module _ (l : Listing) (at : ℕ) where
   row-rises ys row inputs e (applied.Yes answer text) s fits =
       let laid : Results = results_laid row s.heap.values inputs answer.values in
       let gives : Stretch = answered ys row inputs answer text laid s in
-      test-rises (length ys == length laid.cells) (if_room (length laid.added) s gives) (wrong s) (room-rises (length laid.added) s gives tt) tt
+      test-rises (length ys == length laid.cells) (if_room (cells_taken row answer.values) s gives) (wrong s) (room-rises (cells_taken row answer.values) s gives tt) tt
   row-rises ys row inputs e applied.No s fits = else-rises e s fits
   row-rises ys row inputs e applied.Wrong s fits = tt
 

@@ -18,6 +18,7 @@ use Rattle.rml_heap.specs.Form.{Form, form_of}
 use Rattle.rml_heap.specs.Reading.{cell_at, word_of}
 use Rattle.rml_trail.specs.TrailState.{unset_all}
 use Rattle.rml_prims.specs.Shapes.{int_cell, char_cell, con_cell, block_cell, cons_head}
+use Rattle.rml_prims.specs.Taken.{cells_taken}
 use Rattle.rml_prims.specs.Exact.{cells_kept, entries_kept}
 use Rattle.rml_code.specs.declared.instructions.Word.{Word}
 use Rattle.rml_code.specs.declared.instructions.Word.TheVariants as word
@@ -30,8 +31,8 @@ use Rattle.rml_code.specs.declared.instructions.Instr.{Instr}
 use Rattle.rml_code.specs.declared.instructions.Instr.TheVariants as instr
 use Rattle.rml_code.specs.declared.state.State.{State}
 use Rattle.rml_code.specs.Frames.{register, constant, put, registers_of, loaded, success_frame, failure_frame, with_frame, Success, Failure as FailureKept, success_at, failure_at, label_at}
-use Rattle.rml_code.specs.Standing.{value_in, values_in, store_in}
-use Rattle.rml_code.specs.Laid.{Results, results_laid}
+use Rattle.rml_prims.specs.Standing.{value_in, values_in, store_in}
+use Rattle.rml_prims.specs.Laid.{Results, results_laid}
 use Rattle.rml_code.specs.Seen.{Seen, seen_in, asked, is_same, is_alike}
 use Rattle.rml_code.specs.Stretch.{Answer as Answered, Failure, Full, Behind, Jump, Turn, Stop, Stretch, goes, wrong, with_known}
 
@@ -152,13 +153,13 @@ abbrev pub answered : List ℕ → Row → List Cell → Answer → List ℕ →
 answered ys row inputs answer text results s = record (behind (with_results ys row inputs results s)) {
   text = text;
   made = cells_made row answer.values;
-  weighed = length results.added - cells_made row answer.values;
+  weighed = cells_taken row answer.values - cells_made row answer.values;
 }
 
 -- its cells are handed out at once, and there are as many results as registers for them
 abbrev pub answers : List ℕ → Row → List Cell → Answer → List ℕ → Results → State → Stretch
 answers ys row inputs answer text results s =
-    if length ys == length results.cells then if_room (length results.added) s (answered ys row inputs answer text results s) else wrong s
+    if length ys == length results.cells then if_room (cells_taken row answer.values) s (answered ys row inputs answer text results s) else wrong s
 
 -- by what the built-in gives on the values and the store that the cells stand for
 abbrev pub ends_with : List ℕ → Row → List Cell → Else → Applied → State → Stretch

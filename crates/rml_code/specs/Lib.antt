@@ -1,6 +1,4 @@
 pub mod Frames
-pub mod Standing
-pub mod Laid
 pub mod Stretch
 pub mod Seen
 pub mod Effects

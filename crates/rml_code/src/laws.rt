@@ -1,6 +1,6 @@
 //! What holds of the meaning of code. These functions do nothing: their contracts are the laws.
 
-ghost use Rattle.std.specs.Prelude.{◌≡◌, ◌&&◌, ◌<◌, ◌≤◌, ◌++◌, IsTrue, ℕ, suc, ◌+◌, ◌-◌, ◌^◌, ℤ, false, List, [], ◌∷◌, length, Some, None, option_and_then, slice_get, slice_set, if◌then◌else◌};
+ghost use Rattle.std.specs.Prelude.{◌≡◌, ◌&&◌, ◌<◌, ◌≤◌, ◌++◌, IsTrue, ℕ, suc, ◌+◌, ◌-◌, ◌^◌, ℤ, List, [], ◌∷◌, length, Some, None, option_and_then, slice_get, if◌then◌else◌};
 ghost use Rattle.rml_base.specs.Run as run;
 ghost use Rattle.rml_base.specs.Run.{bare};
 ghost use Rattle.rml_base.specs.Monotone.{IsMonotone};
@@ -12,8 +12,8 @@ ghost use Rattle.rml_builtin.specs.Applied.{Store};
 ghost use Rattle.rml_builtin.specs.BuiltIns.{apply};
 ghost use Rattle.rml_heap.specs.declared.cell.Cell.{Cell};
 ghost use Rattle.rml_heap.specs.Form.{form_of};
-ghost use Rattle.rml_heap.specs.HeapState.{HeapState, lvar_head, unset_cell};
-ghost use Rattle.rml_heap.specs.Reading.{cell_at, word_of};
+ghost use Rattle.rml_heap.specs.HeapState.{HeapState};
+ghost use Rattle.rml_heap.specs.Reading.{word_of};
 ghost use Rattle.rml_prims.specs.Shapes.{cons_head};
 ghost use Rattle.rml_code.specs.declared.instructions.Word.{Word};
 ghost use Rattle.rml_code.specs.declared.instructions.Else.{Else};
@@ -24,7 +24,7 @@ ghost use Rattle.rml_code.specs.declared.instructions.Instr.TheVariants as instr
 ghost use Rattle.rml_code.specs.declared.listing.Listing.{Listing};
 ghost use Rattle.rml_code.specs.declared.state.State.{State};
 ghost use Rattle.rml_code.specs.Frames.{register, constant, put, registers_of, success_frame, failure_frame, Failure, success_at, failure_at, label_at};
-ghost use Rattle.rml_code.specs.Standing.{is_lvar, lvars_from, lvars_in, NoHeads, value_in, values_in, store_in};
+ghost use Rattle.rml_prims.specs.Standing.{value_in, values_in, store_in};
 ghost use Rattle.rml_code.specs.Seen.{Seen, seen_in};
 ghost use Rattle.rml_code.specs.Stretch.{then_turn};
 ghost use Rattle.rml_code.specs.Effects.{behind, otherwise, word_cell, con_head, tuple_head, with_block, part_of, saves, guards, resumed, retried, ends_with, switches, entry_in, effect};
@@ -118,15 +118,6 @@ pub fn frames_are_read()
         → heap.frames ≡ above ++ (success_frame label saved s ++ before) → length heap.frames ≤ heap.limit → label_at (heap.limit - length (success_frame label saved s ++ before)) heap ≡ Some label }
     ensures failure_labels { (heap : HeapState) (above saved before : List Cell) (label : ℕ) (s : State)
         → heap.frames ≡ above ++ (failure_frame label saved s ++ before) → length heap.frames ≤ heap.limit → label_at (heap.limit - length (failure_frame label saved s ++ before)) heap ≡ Some label }
-{}
-
-/// Which logical variables cells have, by the addresses of their heads: the same where cells of other blocks are added and where a content
-/// is written, and one more where one is made. Those of the first cells come first.
-pub fn variables_are_found()
-    ensures first { (cells more : List Cell) → lvars_in (cells ++ more) ≡ lvars_in cells ++ lvars_from (0 + length cells) more }
-    ensures added { (cells more : List Cell) → NoHeads more → lvars_in (cells ++ more) ≡ lvars_in cells }
-    ensures made { (cells : List Cell) → lvars_in (cells ++ lvar_head ∷ unset_cell ∷ []) ≡ lvars_in cells ++ length cells ∷ [] }
-    ensures written { (at : ℕ) (c : Cell) (cells : List Cell) → is_lvar (form_of (cell_at cells at)) ≡ false → is_lvar (form_of c) ≡ false → lvars_in (slice_set cells at c) ≡ lvars_in cells }
 {}
 
 /// What a few runs give, of code that is written by hand.

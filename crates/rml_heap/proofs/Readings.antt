@@ -1,5 +1,5 @@
 -- A cell stands for the same value whatever happens above a place, at a greater depth and below a higher top.
-use Rattle.std.proofs.Common.{◌≡◌, ℕ, zero, suc, ◌+◌, ◌<◌, ◌≤◌, List, ◌∷◌, Option, Some, None, refl, ap, sym, ◌∙◌, subst, arith, ◌⊎◌, inl, inr}
+use Rattle.std.proofs.Common.{◌≡◌, ℕ, zero, suc, ◌+◌, ◌-◌, ◌<◌, ◌≤◌, List, ◌∷◌, Option, Some, None, refl, ap, sym, ◌∙◌, subst, arith, ◌⊎◌, inl, inr}
 use Rattle.std.specs.Option.{option_map, option_and_then}
 use Rattle.std.proofs.lemmas.Bool.Decides.{leb_tells}
 use Rattle.rml_value.specs.declared.value.Value.{Value}
@@ -188,3 +188,15 @@ one-reading depth depth' cells names top c v w h k =
     let other : value_below (depth + depth') cells names top c ≡ Some w = below-deep depth depth' cells names top c w k in
     let same : value_below (depth' + depth) cells names top c ≡ Some w = ap (λ n. value_below n cells names top c) swap ∙ other in
     cc
+
+-- no reading goes deeper than there are cells below the top
+pub below-shallow : (depth : ℕ) (cells : List Cell) (names : List ℕ) (top : ℕ) (c : Cell) (v : Value) → value_below depth cells names top c ≡ Some v → value_below (suc top) cells names top c ≡ Some v
+unfolding value_below
+below-shallow zero cells names top c v h = cc
+below-shallow (suc depth) cells names top c v h =
+    form-agrees (value_below depth cells names) (value_below top cells names) top cells names cells names
+    (λ at inside d w found.
+    let e : (top - suc at) + suc at ≡ top = omega (arith, inside) in
+    let shallow : value_below (suc at) cells names at d ≡ Some w = below-shallow depth cells names at d w found in
+    subst (λ n. value_below n cells names at d ≡ Some w) e (below-deep (top - suc at) (suc at) cells names at d w shallow))
+    (below-none depth cells names) (agrees-same top cells names) (form_of c) v h

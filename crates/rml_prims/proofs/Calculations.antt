@@ -24,6 +24,7 @@ use Rattle.rml_prims.specs.Calculated.{IsCalculation, IsTurn, IsComparison, IsOv
 use Rattle.rml_prims.specs.Shapes.{OneChar, OneInt, TwoInts, int_cell, char_cell, con_cell}
 use Rattle.rml_prims.specs.Found.{CanApply, IsFinding, IsFound, Finds}
 use Rattle.rml_prims.proofs.PlainCells.{char-cell, char-stands, char-value, con-stands, int-cell, int-stands, int-value}
+use Rattle.rml_prims.proofs.LaidCells.{LaysPlain, char-laid, con-laid, int-laid}
 use Rattle.rml_prims.proofs.Arguments.{One, Two, one-told, two-told, wrong-same, one-given, two-given, one-cells, two-cells, one-values, two-values}
 
 -- an integer, or no answer
@@ -103,12 +104,36 @@ turn-int row cells inputs is can =
 
 -- ---- what is found
 
-pub found-int : (cells : List Cell) (names : List ℕ) (store : Store) (o : Option ℤ) → IsFound cells names store (int_or_no store o) (option_map int_cell o)
-found-int cells names store None = tt
-found-int cells names store (Some i) = (refl, (int-stands cells names (length cells) i, tt))
+calculation-plain : (row : Row) → IsCalculation row → LaysPlain row
+calculation-plain IntAdd is = λ cs inputs v. refl
+calculation-plain IntSub is = λ cs inputs v. refl
+calculation-plain IntMul is = λ cs inputs v. refl
+calculation-plain IntDiv is = λ cs inputs v. refl
+calculation-plain IntMod is = λ cs inputs v. refl
+calculation-plain IntMax is = λ cs inputs v. refl
+calculation-plain IntMin is = λ cs inputs v. refl
+calculation-plain _ is = absurd is
 
-found-truth : (cells : List Cell) (names : List ℕ) (store : Store) (b : Bool) → IsFound cells names store (truth b store) (Some (con_cell (if b then TRUE else FALSE)))
-found-truth cells names store b = (refl, (con-stands cells names (length cells) (if b then TRUE else FALSE), tt))
+turn-plain : (row : Row) → IsTurn row → LaysPlain row
+turn-plain IntNeg is = λ cs inputs v. refl
+turn-plain IntAbs is = λ cs inputs v. refl
+turn-plain _ is = absurd is
+
+comparison-plain : (row : Row) → IsComparison row → LaysPlain row
+comparison-plain IntLt is = λ cs inputs v. refl
+comparison-plain IntLe is = λ cs inputs v. refl
+comparison-plain IntGt is = λ cs inputs v. refl
+comparison-plain IntGe is = λ cs inputs v. refl
+comparison-plain IntEq is = λ cs inputs v. refl
+comparison-plain IntNe is = λ cs inputs v. refl
+comparison-plain _ is = absurd is
+
+pub found-int : (row : Row) → LaysPlain row → (cells inputs : List Cell) (names : List ℕ) (store : Store) (o : Option ℤ) → IsFound row cells inputs names store (int_or_no store o) (option_map int_cell o)
+found-int row plain cells inputs names store None = tt
+found-int row plain cells inputs names store (Some i) = (refl, (int-stands cells names (length cells) i, tt), int-laid row plain cells inputs i)
+
+found-truth : (row : Row) → LaysPlain row → (cells inputs : List Cell) (names : List ℕ) (store : Store) (b : Bool) → IsFound row cells inputs names store (truth b store) (Some (con_cell (if b then TRUE else FALSE)))
+found-truth row plain cells inputs names store b = (refl, (con-stands cells names (length cells) (if b then TRUE else FALSE), tt), con-laid row plain cells inputs (if b then TRUE else FALSE))
 
 -- the values of two cells of integers
 two-ints-given : (cells : List Cell) (names : List ℕ) (inputs : List Cell) (vs : List Value) (t : TwoInts inputs) → AllStand cells names (length cells) inputs vs → (go : ℤ × ℤ → Applied) → or_wrong (two int_of int_of vs) go ≡ go (t.m, t.n)
@@ -127,21 +152,21 @@ one-int-given cells names inputs vs t stand go =
 
 pub calculation-finds : (row : Row) (inputs : List Cell) → IsCalculation row → (t : TwoInts inputs) → (cells : List Cell) → Finds row cells inputs (option_map int_cell (calculated row t.m t.n))
 calculation-finds row inputs is t cells names store vs stand =
-    let P : Applied → Type 0 = λ a. IsFound cells names store a (option_map int_cell (calculated row t.m t.n)) in
+    let P : Applied → Type 0 = λ a. IsFound row cells inputs names store a (option_map int_cell (calculated row t.m t.n)) in
     let same : apply row vs store ≡ int_or_no store (calculated row t.m t.n) = calculates row vs store is ∙ two-ints-given cells names inputs vs t stand (λ p. int_or_no store (calculated row p.0 p.1)) in
-    subst P (sym same) (found-int cells names store (calculated row t.m t.n))
+    subst P (sym same) (found-int row (calculation-plain row is) cells inputs names store (calculated row t.m t.n))
 
 pub turn-finds : (row : Row) (inputs : List Cell) → IsTurn row → (t : OneInt inputs) → (cells : List Cell) → Finds row cells inputs (option_map int_cell (turned row t.n))
 turn-finds row inputs is t cells names store vs stand =
-    let P : Applied → Type 0 = λ a. IsFound cells names store a (option_map int_cell (turned row t.n)) in
+    let P : Applied → Type 0 = λ a. IsFound row cells inputs names store a (option_map int_cell (turned row t.n)) in
     let same : apply row vs store ≡ int_or_no store (turned row t.n) = turns row vs store is ∙ one-int-given cells names inputs vs t stand (λ n. int_or_no store (turned row n)) in
-    subst P (sym same) (found-int cells names store (turned row t.n))
+    subst P (sym same) (found-int row (turn-plain row is) cells inputs names store (turned row t.n))
 
 pub comparison-finds : (row : Row) (inputs : List Cell) → IsComparison row → (t : TwoInts inputs) → (cells : List Cell) → Finds row cells inputs (Some (con_cell (if compared row t.m t.n then TRUE else FALSE)))
 comparison-finds row inputs is t cells names store vs stand =
-    let P : Applied → Type 0 = λ a. IsFound cells names store a (Some (con_cell (if compared row t.m t.n then TRUE else FALSE))) in
+    let P : Applied → Type 0 = λ a. IsFound row cells inputs names store a (Some (con_cell (if compared row t.m t.n then TRUE else FALSE))) in
     let same : apply row vs store ≡ truth (compared row t.m t.n) store = compares row vs store is ∙ two-ints-given cells names inputs vs t stand (λ p. truth (compared row p.0 p.1) store) in
-    subst P (sym same) (found-truth cells names store (compared row t.m t.n))
+    subst P (sym same) (found-truth row (comparison-plain row is) cells inputs names store (compared row t.m t.n))
 
 -- ---- what is read of the arguments
 
@@ -164,24 +189,24 @@ numbered-is (pos n) store = pick (nat_le n 255)
     pick false = refl
 numbered-is (negsuc n) store = refl
 
-found-char : (cells : List Cell) (names : List ℕ) (store : Store) (n : ℤ) → IsFound cells names store (or_no (char_numbered n) (λ c. gives_one (value.Char c) store)) (option_map char_cell (char_numbered n))
-found-char cells names store (negsuc n) = tt
-found-char cells names store (pos n) =
+found-char : (cells inputs : List Cell) (names : List ℕ) (store : Store) (n : ℤ) → IsFound IntChar cells inputs names store (or_no (char_numbered n) (λ c. gives_one (value.Char c) store)) (option_map char_cell (char_numbered n))
+found-char cells inputs names store (negsuc n) = tt
+found-char cells inputs names store (pos n) =
     elim (leb_tells n 255) [
       | inl small ↦
-          let F : Bool → Type 0 = λ b. IsFound cells names store (or_no (if b then Some n else None) (λ c. gives_one (value.Char c) store)) (option_map char_cell (if b then Some n else None)) in
+          let F : Bool → Type 0 = λ b. IsFound IntChar cells inputs names store (or_no (if b then Some n else None) (λ c. gives_one (value.Char c) store)) (option_map char_cell (if b then Some n else None)) in
           let low : n < 256 = let w = small.1 in omega (arith, w) in
-          subst F (sym small.0) (refl, (char-stands cells names (length cells) n low, tt))
+          subst F (sym small.0) (refl, (char-stands cells names (length cells) n low, tt), char-laid IntChar (λ cs is v. refl) cells inputs n)
       | inr large ↦
-          let F : Bool → Type 0 = λ b. IsFound cells names store (or_no (if b then Some n else None) (λ c. gives_one (value.Char c) store)) (option_map char_cell (if b then Some n else None)) in
+          let F : Bool → Type 0 = λ b. IsFound IntChar cells inputs names store (or_no (if b then Some n else None) (λ c. gives_one (value.Char c) store)) (option_map char_cell (if b then Some n else None)) in
           subst F (sym large.0) tt
     ]
 
 pub char-finds : (inputs : List Cell) (t : OneInt inputs) (cells : List Cell) → Finds IntChar cells inputs (option_map char_cell (char_numbered t.n))
 char-finds inputs t cells names store vs stand =
-    let P : Applied → Type 0 = λ a. IsFound cells names store a (option_map char_cell (char_numbered t.n)) in
+    let P : Applied → Type 0 = λ a. IsFound IntChar cells inputs names store a (option_map char_cell (char_numbered t.n)) in
     let same : apply IntChar vs store ≡ or_no (char_numbered t.n) (λ c. gives_one (value.Char c) store) = one-int-given cells names inputs vs t stand (λ n. char_from n store) ∙ numbered-is t.n store in
-    subst P (sym same) (found-char cells names store t.n)
+    subst P (sym same) (found-char cells inputs names store t.n)
 
 pub char-int : (cells inputs : List Cell) → CanApply IntChar cells inputs → OneInt inputs
 char-int cells inputs can = one-int cells can.names inputs can.values can.stand (one-told int_of can.values (λ n. char_from n can.store) can.right)
@@ -198,11 +223,11 @@ pub code-finds : (inputs : List Cell) (t : OneChar inputs) (cells : List Cell) �
 code-finds inputs t cells names store vs stand =
     let Q : List Cell → Type 0 = λ cs. AllStand cells names (length cells) cs vs in
     let told = one-values cells names (length cells) (char_cell t.c) vs (subst Q t.is stand) in
-    let P : Applied → Type 0 = λ a. IsFound cells names store a (Some (int_cell (pos t.c))) in
+    let P : Applied → Type 0 = λ a. IsFound CharInt cells inputs names store a (Some (int_cell (pos t.c))) in
     let same : apply CharInt vs store ≡ gives_one (value.Int (pos t.c)) store =
     ap (λ ws. apply CharInt ws store) told.1 ∙ one-given char_of (λ c. gives_one (value.Int (pos c)) store) told.0 t.c (char-value cells names (length cells) t.c told.0 told.2)
     in
-    subst P (sym same) (refl, (int-stands cells names (length cells) (pos t.c), tt))
+    subst P (sym same) (refl, (int-stands cells names (length cells) (pos t.c), tt), int-laid CharInt (λ cs is v. refl) cells inputs (pos t.c))
 
 -- ---- the rows that are told apart
 

@@ -1,4 +1,5 @@
 pub mod PlainCells
+pub mod LaidCells
 pub mod Arguments
 pub mod Calculations
 pub mod Bindings
@@ -18,3 +19,6 @@ pub mod ReadNumerals
 pub mod PackedTexts
 pub mod PackedRows
 pub mod Shifted
+pub mod Variables
+pub mod StandingCells
+pub mod Callers

@@ -1,7 +1,8 @@
 -- Rows whose result is a list, whose last `::` is placed first.
-use Rattle.std.proofs.Common.{◌≡◌, ◌≢◌, ℕ, zero, suc, ◌+◌, ◌-◌, ◌*◌, ◌<◌, ◌≤◌, List, [], ◌∷◌, ◌++◌, Some, None, Ok, Err, length, drop, refl, sym, ap, subst, ◌∙◌, arith, append_assoc, length-append, zero-add}
+use Rattle.std.proofs.Common.{◌≡◌, ◌≢◌, ℕ, zero, suc, ◌+◌, ◌-◌, ◌*◌, ◌<◌, ◌≤◌, List, [], ◌∷◌, ◌++◌, Some, None, Ok, Err, length, take, drop, refl, sym, ap, subst, ◌∙◌, arith, append_assoc, length-append, zero-add}
 use Rattle.std.specs.Prelude.{slice_get, sum_by}
-use Rattle.std.proofs.lemmas.List.{append-nil, get_or_append_left}
+use Rattle.std.proofs.lemmas.List.{append-nil, get_or_append_left, length-drop, length-take, length-take-le}
+use Rattle.std.proofs.lemmas.Option.{slice_get-get_or}
 use Rattle.rml_value.specs.declared.value.Value.{Value}
 use Rattle.rml_value.specs.declared.value.Value.TheVariants.{outs-Con}
 use Rattle.rml_value.specs.declared.value.TheConstants.{CONS, NIL}
@@ -22,10 +23,11 @@ use Rattle.rml_heap.specs.Reading.{cell_at, form_before, look, looks, Stands, Al
 use Rattle.rml_heap.proofs.Callers.{below-higher, look-below, stands-more}
 use Rattle.rml_prims.specs.Shapes.{IsVector, OneVector, block_cell, con_cell, cons_head}
 use Rattle.rml_prims.specs.Taken.{cells_taken}
+use Rattle.rml_prims.specs.Laid.{alone, list_laid, one_result, onto_list, vector_items}
 use Rattle.rml_prims.specs.Found.{CanApply, DoNotFit, IsMade, IsMaking, Makes}
 use Rattle.rml_prims.proofs.PlainCells.{con-stands}
 use Rattle.rml_prims.proofs.Arguments.{one-given, one-told, one-values}
-use Rattle.rml_prims.proofs.VectorCells.{HasItems, any-items, items-of, one-vector, part-at}
+use Rattle.rml_prims.proofs.VectorCells.{HasItems, any-items, item-there, items-of, one-vector, part-at, vector_items-are}
 use Rattle.rml_prims.proofs.PlacedCells.{cons-last, cons-stands}
 
 -- ---- the cells of a list
@@ -79,7 +81,23 @@ pub record Listing (old : HeapState) (at size i : ℕ) (now : HeapState) (list :
   pub cells : List Cell
   pub heap : now ≡ record old { values = old.values ++ cells }
   pub long : length cells ≡ 3 * i
+  pub laid : list_laid (length old.values) (drop (size - i) (take size (drop (suc at) old.values))) ≡ record { added = cells; cell = list }
   pub listed : (names : List ℕ) (items : List Value) → form_before old.values (length old.values) ≢ form.Lvar → HasParts old.values names at size items → IsListed old.values at size i now.values list names items
+
+-- one more item, in front
+pub onto-laid : (start : ℕ) (items : List Cell) (item : Cell) (rest : List Cell) (cells : List Cell) (list next : Cell) → items ≡ item ∷ rest → list_laid start rest ≡ record { added = cells; cell = list } → next ≡ block_cell (start + length cells)
+    → list_laid start items ≡ record { added = cells ++ cons_head ∷ item ∷ list ∷ []; cell = next }
+onto-laid start items item rest cells list next is laid next_is =
+    ap (list_laid start) is ∙ ap (onto_list start item) laid ∙ ap (λ (c : Cell). record { added = cells ++ cons_head ∷ item ∷ list ∷ []; cell = c }) (sym next_is)
+
+pub none-laid : (start : ℕ) (items : List Cell) (list : Cell) → items ≡ [] → list ≡ con_cell NIL → list_laid start items ≡ record { added = []; cell = list }
+none-laid start items list none is = ap (list_laid start) none ∙ ap alone (sym is)
+
+pub drop-past : {A : Type 0} (xs : List A) (n : ℕ) → length xs ≤ n → drop n xs ≡ []
+drop-past [] zero h = refl
+drop-past [] (suc n) h = refl
+drop-past (x ∷ xs) zero h = absurd (omega (arith, h))
+drop-past (x ∷ xs) (suc n) h = drop-past xs n (omega (arith, h))
 
 pub listing-start : (old : HeapState) (at size : ℕ) (list : Cell) → list ≡ con_cell NIL → Listing old at size 0 old list
 listing-start old at size list is =
@@ -87,6 +105,9 @@ listing-start old at size list is =
       cells = [];
       heap = ap (λ (vs : List Cell). record old { values = vs }) (sym (append-nil old.values));
       long = refl;
+      laid = let short = length-take size (drop (suc at) old.values) in
+          let past : length (take size (drop (suc at) old.values)) ≤ size - 0 = omega (arith, short) in
+          none-laid (length old.values) (drop (size - 0) (take size (drop (suc at) old.values))) list (drop-past (take size (drop (suc at) old.values)) (size - 0) past) is;
       listed = λ names items clear parts.
           let none : drop (size - 0) items ≡ [] = let e : size - 0 ≡ length items = let l = parts.size_is in omega (arith, l) in ap (λ n. drop n items) e ∙ drop-all items in
           let V : List Value → Type 0 = λ vs. Stands old.values names (length old.values) list (list_of vs) in
@@ -94,17 +115,35 @@ listing-start old at size list is =
           record { last = clear; stands = subst V (sym none) (subst C (sym is) (con-stands old.values names (length old.values) NIL)) };
     }
 
-pub listing-step : (old : HeapState) (at size i : ℕ) (now after : HeapState) (list item next : Cell) → suc (at + size) ≤ length old.values → i < size → Listing old at size i now list
+pub listing-step : (old : HeapState) (at size i : ℕ) (now after : HeapState) (list item next : Cell) → suc (at + size) ≤ length old.values → ((j : ℕ) → j < size → look old.values (suc (at + j)) ≡ cell_at old.values (suc (at + j))) → i < size → Listing old at size i now list
     → item ≡ look now.values (suc (at + (size - 1 - i))) → after ≡ record now { values = now.values ++ cons_head ∷ item ∷ list ∷ [] } → next ≡ block_cell (length now.values)
     → Listing old at size (i + 1) after next
-listing-step old at size i now after list item next fits inside h item_is added next_is =
+listing-step old at size i now after list item next fits shown inside h item_is added next_is =
     let three : List Cell = cons_head ∷ item ∷ list ∷ [] in
     let values : now.values ≡ old.values ++ h.cells = ap (λ (s : HeapState). s.values) h.heap in
     let after_values : after.values ≡ now.values ++ three = ap (λ (s : HeapState). s.values) added in
     let k : ℕ = size - 1 - i in
     let size_now : length (h.cells ++ three) ≡ length h.cells + 3 = length-append h.cells three in
+    let vector : List Cell = take size (drop (suc at) old.values) in
+    let below : k < size = omega (arith, inside) in
+    let old_item : item ≡ cell_at old.values (suc (at + k)) =
+    let within : suc (at + k) < length old.values = omega (arith, fits, below) in
+    item_is ∙ ap (λ (ws : List Cell). look ws (suc (at + k))) values ∙ look-below old.values (old.values ++ h.cells) (length old.values) (λ j less. get_or_append_left old.values h.cells unset_cell j less) (suc (at + k)) within ∙ shown k below
+    in
+    let vector_front : drop (size - (i + 1)) vector ≡ item ∷ drop (size - i) vector =
+    let before : size - (i + 1) ≡ k = omega arith in
+    let later : suc k ≡ size - i = omega (arith, inside) in
+    let rest_long = length-drop (suc at) old.values in
+    let enough : size ≤ length (drop (suc at) old.values) = omega (arith, rest_long, fits) in
+    let vector_long : length vector ≡ size = length-take-le size (drop (suc at) old.values) enough in
+    let reached : k < length vector = omega (arith, below, vector_long) in
+    let there : slice_get vector k ≡ Some item = slice_get-get_or vector k unset_cell reached ∙ ap Some (item-there old.values at size k unset_cell fits below ∙ sym old_item) in
+    ap (λ n. drop n vector) before ∙ drop-get vector k item there ∙ ap (λ n. item ∷ drop n vector) later
+    in
+    let now_long : length now.values ≡ length old.values + length h.cells = ap length values ∙ length-append old.values h.cells in
     record {
       cells = h.cells ++ three;
+      laid = onto-laid (length old.values) (drop (size - (i + 1)) vector) item (drop (size - i) vector) h.cells list next vector_front h.laid (next_is ∙ ap block_cell now_long);
       heap = added ∙ ap (λ (s : HeapState). record s { values = s.values ++ three }) h.heap ∙ ap (λ (vs : List Cell). record old { values = vs }) (append_assoc old.values h.cells three);
       long = let l = h.long in omega (arith, l, size_now);
       listed = λ names items clear parts.
@@ -168,9 +207,14 @@ list-makes old now c list at size room vector h names store values binds stand =
     let whole : drop (size - size) items ≡ items = let e : size - size ≡ 0 = omega arith in ap (λ n. drop n items) e in
     let V : List Value → Type 0 = λ vs. Stands now.values names (length now.values) list (list_of vs) in
     let takes : cells_taken VectorList (list_of items ∷ []) ≡ 3 * size = list-takes items ∙ ap (λ n. 3 * n) g.1.size in
-    let M : Applied → Type 0 = λ a. IsMade VectorList names store old a now (Ok list) in
+    let M : Applied → Type 0 = λ a. IsMade VectorList (c ∷ []) names store old a now (Ok list) in
+    let vector_whole : drop (size - size) (take size (drop (suc at) old.values)) ≡ vector_items old.values c =
+    let e : size - size ≡ 0 = omega arith in
+    ap (λ n. drop n (take size (drop (suc at) old.values))) e ∙ sym (vector_items-are old.values c at size vector)
+    in
     subst M (sym g.2) (record {
       cells = h.cells;
+      laid = ap one_result (ap (list_laid (length old.values)) (sym vector_whole) ∙ h.laid);
       taken = h.long ∙ sym takes;
       room = omega (arith, room, takes);
       heap = h.heap;
@@ -183,7 +227,7 @@ pub list-full : (old now : HeapState) (c : Cell) (full : Full) (at size : ℕ) �
 list-full old now c full at size not_fit same vector names store values binds stand =
     let g = list-gives old.values names store values c at size vector stand in
     let takes : cells_taken VectorList (list_of g.1.items ∷ []) ≡ 3 * size = list-takes g.1.items ∙ ap (λ n. 3 * n) g.1.size in
-    let M : Applied → Type 0 = λ a. IsMade VectorList names store old a now (Err full) in
+    let M : Applied → Type 0 = λ a. IsMade VectorList (c ∷ []) names store old a now (Err full) in
     let D : ℕ → Type 0 = λ n. DoNotFit old n full in
     subst M (sym g.2) (subst D (sym takes) not_fit, same)
 

@@ -24,6 +24,7 @@ use Rattle.rml_prims.specs.Shapes.{OneInt, block_cell, int_cell}
 use Rattle.rml_prims.specs.Taken.{cells_taken}
 use Rattle.rml_prims.specs.Found.{CanApply, DoNotFit, Grows, IsMade, Makes}
 use Rattle.rml_prims.proofs.PlainCells.{int-value}
+use Rattle.rml_prims.proofs.LaidCells.{LaysPlain, text-laid}
 use Rattle.rml_prims.proofs.Arguments.{one-given, one-told, one-values}
 use Rattle.rml_prims.proofs.Calculations.{one-int}
 use Rattle.rml_prims.proofs.PlacedCells.{length-text, text-last, text-stands}
@@ -35,10 +36,10 @@ text-takes bytes = ap (λ f. 0 + cells_at f (value.Text bytes)) (outs-Text bytes
 abbrev pub IsCharged : Row → Type 0
 IsCharged row = (vs : List Value) → cells_taken row vs ≡ sum_by cells_of vs
 
-pub made-text : (row : Row) (names : List ℕ) (store : Store) (before after : HeapState) (c : Cell) (bytes : List ℕ) → IsCharged row → EachByte bytes → form_before before.values (length before.values) ≢ form.Lvar
+pub made-text : (row : Row) (inputs : List Cell) (names : List ℕ) (store : Store) (before after : HeapState) (c : Cell) (bytes : List ℕ) → LaysPlain row → IsCharged row → EachByte bytes → form_before before.values (length before.values) ≢ form.Lvar
     → HasRoom before (1 + words_for (length bytes)) → after ≡ record before { values = before.values ++ text_cells bytes } → c ≡ block_cell (length before.values)
-    → IsMade row names store before (gives_one (value.Text bytes) store) after (Ok c)
-made-text row names store before after c bytes charged each clear room added is =
+    → IsMade row inputs names store before (gives_one (value.Text bytes) store) after (Ok c)
+made-text row inputs names store before after c bytes plain charged each clear room added is =
     let takes : cells_taken row (value.Text bytes ∷ []) ≡ 1 + words_for (length bytes) = charged (value.Text bytes ∷ []) ∙ text-takes bytes in
     let values : after.values ≡ before.values ++ text_cells bytes = ap (λ (s : HeapState). s.values) added in
     let L : List Cell → Type 0 = λ ws. form_before ws (length ws) ≢ form.Lvar in
@@ -46,6 +47,7 @@ made-text row names store before after c bytes charged each clear room added is 
     let C : Cell → Type 0 = λ d. Stands after.values names (length after.values) d (value.Text bytes) in
     record {
       cells = text_cells bytes;
+      laid = text-laid row plain before.values inputs bytes ∙ ap (λ (d : Cell). record { added = text_cells bytes; cells = d ∷ [] }) (sym is);
       taken = length-text bytes ∙ sym takes;
       room = omega (arith, room, takes);
       heap = added;
@@ -54,9 +56,9 @@ made-text row names store before after c bytes charged each clear room added is 
       result = (subst C (sym is) (subst S (sym values) (text-stands before.values names bytes clear each)), tt);
     }
 
-pub full-text : (row : Row) (names : List ℕ) (store : Store) (before after : HeapState) (full : Full) (bytes : List ℕ) → IsCharged row → DoNotFit before (1 + words_for (length bytes)) full → after ≡ before
-    → IsMade row names store before (gives_one (value.Text bytes) store) after (Err full)
-full-text row names store before after full bytes charged not_fit same =
+pub full-text : (row : Row) (inputs : List Cell) (names : List ℕ) (store : Store) (before after : HeapState) (full : Full) (bytes : List ℕ) → IsCharged row → DoNotFit before (1 + words_for (length bytes)) full → after ≡ before
+    → IsMade row inputs names store before (gives_one (value.Text bytes) store) after (Err full)
+full-text row inputs names store before after full bytes charged not_fit same =
     let takes : cells_taken row (value.Text bytes ∷ []) ≡ 1 + words_for (length bytes) = charged (value.Text bytes ∷ []) ∙ text-takes bytes in
     let D : ℕ → Type 0 = λ n. DoNotFit before n full in
     (subst D (sym takes) not_fit, same)
@@ -71,15 +73,15 @@ decimal-gives cells names top store values n stand =
 pub decimal-makes : (before after : HeapState) (n : ℤ) (bytes : List ℕ) (c : Cell) → bytes ≡ decimal_of n → EachByte bytes → HasRoom before (1 + words_for (length bytes))
     → after ≡ record before { values = before.values ++ text_cells bytes } → c ≡ block_cell (length before.values) → Makes IntString before (int_cell n ∷ []) after (Ok c)
 decimal-makes before after n bytes c text each room added is names store values binds stand =
-    let M : Applied → Type 0 = λ a. IsMade IntString names store before a after (Ok c) in
-    let T : List ℕ → Type 0 = λ bs. IsMade IntString names store before (gives_one (value.Text bs) store) after (Ok c) in
-    subst M (sym (decimal-gives before.values names (length before.values) store values n stand)) (subst T text (made-text IntString names store before after c bytes (λ vs. refl) each binds.last room added is))
+    let M : Applied → Type 0 = λ a. IsMade IntString (int_cell n ∷ []) names store before a after (Ok c) in
+    let T : List ℕ → Type 0 = λ bs. IsMade IntString (int_cell n ∷ []) names store before (gives_one (value.Text bs) store) after (Ok c) in
+    subst M (sym (decimal-gives before.values names (length before.values) store values n stand)) (subst T text (made-text IntString (int_cell n ∷ []) names store before after c bytes (λ cs is v. refl) (λ vs. refl) each binds.last room added is))
 
 pub decimal-full : (before after : HeapState) (n : ℤ) (bytes : List ℕ) (full : Full) → bytes ≡ decimal_of n → DoNotFit before (1 + words_for (length bytes)) full → after ≡ before → Makes IntString before (int_cell n ∷ []) after (Err full)
 decimal-full before after n bytes full text not_fit same names store values binds stand =
-    let M : Applied → Type 0 = λ a. IsMade IntString names store before a after (Err full) in
-    let T : List ℕ → Type 0 = λ bs. IsMade IntString names store before (gives_one (value.Text bs) store) after (Err full) in
-    subst M (sym (decimal-gives before.values names (length before.values) store values n stand)) (subst T text (full-text IntString names store before after full bytes (λ vs. refl) not_fit same))
+    let M : Applied → Type 0 = λ a. IsMade IntString (int_cell n ∷ []) names store before a after (Err full) in
+    let T : List ℕ → Type 0 = λ bs. IsMade IntString (int_cell n ∷ []) names store before (gives_one (value.Text bs) store) after (Err full) in
+    subst M (sym (decimal-gives before.values names (length before.values) store values n stand)) (subst T text (full-text IntString (int_cell n ∷ []) names store before after full bytes (λ vs. refl) not_fit same))
 
 pub decimal-int : (cells inputs : List Cell) → CanApply IntString cells inputs → OneInt inputs
 decimal-int cells inputs can = one-int cells can.names inputs can.values can.stand (one-told int_of can.values (λ n. gives_one (value.Text (decimal_of n)) can.store) can.right)

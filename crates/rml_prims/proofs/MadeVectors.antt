@@ -1,10 +1,11 @@
 -- The row whose result is the vector of a list's items.
-use Rattle.std.proofs.Common.{◌≡◌, ◌≢◌, ℕ, suc, ◌+◌, ◌<◌, ◌≤◌, List, [], ◌∷◌, ◌++◌, Some, Ok, Err, length, refl, sym, ap, subst, ◌∙◌, arith, append_assoc, length-append, zero-add}
+use Rattle.std.proofs.Common.{◌≡◌, ◌≢◌, ℕ, zero, suc, ◌+◌, ◌<◌, ◌≤◌, List, [], ◌∷◌, ◌++◌, Some, Ok, Err, length, refl, sym, ap, subst, ◌∙◌, arith, append_assoc, length-append, zero-add}
 use Rattle.std.specs.Option.{option_map}
 use Rattle.std.proofs.lemmas.List.{append-nil, get_or_append_left}
 use Rattle.rml_value.specs.declared.value.Value.{Value}
 use Rattle.rml_value.specs.declared.value.Value.TheVariants as value
 use Rattle.rml_value.specs.declared.value.Value.TheVariants.{outs-Vector}
+use Rattle.rml_value.specs.declared.value.TheConstants.{NIL}
 use Rattle.rml_value.specs.Lists.{items_of}
 use Rattle.rml_value.proofs.Callers.{items_of-list_of, list_of-items}
 use Rattle.rml_builtin.specs.declared.row.Row.TheVariants.{ListVector}
@@ -16,13 +17,16 @@ use Rattle.rml_heap.specs.declared.cell.Cell.{Cell}
 use Rattle.rml_heap.specs.declared.heap.Full.{Full}
 use Rattle.rml_heap.specs.HeapState.{HeapState, HasRoom, unset_cell}
 use Rattle.rml_heap.specs.Form as form
-use Rattle.rml_heap.specs.Form.{form_of}
-use Rattle.rml_heap.specs.Reading.{cell_at, form_before, parts_of, block_value, Stands, AllStand}
-use Rattle.rml_prims.specs.Shapes.{AtCons, IsList, OneList, block_cell, vector_head}
+use Rattle.rml_heap.specs.Form.{Form, form_of}
+use Rattle.rml_heap.specs.Reading.{cell_at, form_before, look, parts_of, block_value, Stands, AllStand}
+use Rattle.rml_prims.specs.Shapes.{AtCons, IsCons, IsList, OneList, block_cell, vector_head}
 use Rattle.rml_prims.specs.Taken.{cells_taken}
+use Rattle.rml_prims.specs.Laid.{items_at, items_in, list_items, one_result, vector_laid}
 use Rattle.rml_prims.specs.Found.{CanApply, DoNotFit, IsMade, Makes}
 use Rattle.rml_prims.proofs.Arguments.{One, one-given, one-told, one-cells, one-values}
-use Rattle.rml_heap.proofs.Callers.{added-block, all-no_lvar, before-end}
+use Rattle.rml_heap.proofs.Callers.{IsHead, added-block, all-no_lvar, before-end, block-form, head-is}
+use Rattle.rml_prims.proofs.PlainCells.{con-form}
+use Rattle.rml_prims.proofs.PlacedCells.{cons-form}
 use Rattle.rml_prims.proofs.VectorCells.{all-length, head-form}
 use Rattle.rml_prims.proofs.ListCells.{Further, ListRead, cons-more, is-list, list-read}
 
@@ -34,6 +38,22 @@ one-list cells inputs can =
     let V : Value → Type 0 = λ v. Stands cells can.names (length cells) told.0 v in
     let list = is-list cells can.names (length cells) told.0 one.x (subst V (list_of-items one.v one.x one.first) told.2) in
     record { c = told.0; is = told.1; items = list.0; list = list.1 }
+
+-- the items, as they are read
+items-are : (n : ℕ) (cells : List Cell) (top : ℕ) (c : Cell) (items : List Cell) → top ≤ n → IsList cells top c items → list_items n cells c ≡ items
+items-are zero cells top c [] within h = refl
+items-are (suc n) cells top c [] within h = ap (items_in (list_items n cells) cells) (ap form_of h ∙ con-form NIL)
+items-are zero cells top c (item ∷ items) within h = let inside = h.1.inside in absurd (omega (arith, inside, within))
+items-are (suc n) cells top c (item ∷ items) within h =
+    let at : ℕ = h.0 in
+    let cons : IsCons cells top c at item = h.1 in
+    let inside = cons.inside in
+    let low : at ≤ n = omega (arith, inside, within) in
+    let head_is : form_of (look cells at) ≡ form.ConsBlock = ap form_of cons.head ∙ cons-form in
+    let P : Form → Type 0 = IsHead in
+    let there : look cells at ≡ cell_at cells at = head-is cells at (subst P (sym head_is) tt) in
+    ap (items_in (list_items n cells) cells) (ap form_of cons.is ∙ block-form at) ∙ ap (items_at (list_items n cells) cells at) (ap form_of (sym there) ∙ head_is)
+    ∙ ap (λ (d : Cell). d ∷ list_items n cells (cell_at cells (suc (suc at)))) cons.shown ∙ ap (λ ds. item ∷ ds) (items-are n cells at (cell_at cells (suc (suc at))) items low h.2)
 
 -- ---- copying
 
@@ -146,10 +166,15 @@ vector-makes old now list c items size room long is added cell names store value
     let L : List Cell → Type 0 = λ ws. form_before ws (length ws) ≢ form.Lvar in
     let S : List Cell → Type 0 = λ ws. Stands ws names (length ws) (block_cell (length old.values)) (value.Vector vs) in
     let C : Cell → Type 0 = λ d. Stands now.values names (length now.values) d (value.Vector vs) in
-    let M : Applied → Type 0 = λ a. IsMade ListVector names store old a now (Ok c) in
+    let M : Applied → Type 0 = λ a. IsMade ListVector (list ∷ []) names store old a now (Ok c) in
     let next : suc (length items) ≡ 1 + size = omega (arith, long) in
+    let laid : vector_laid (length old.values) (list_items (length old.values) old.values list) ≡ record { added = more; cell = c } =
+    ap (vector_laid (length old.values)) (items-are (length old.values) old.values (length old.values) list items (omega arith) is)
+    ∙ ap (λ n. record { added = vector_head n ∷ items; cell = block_cell (length old.values) }) long ∙ ap (λ (d : Cell). record { added = more; cell = d }) (sym cell)
+    in
     subst M (sym g.2) (record {
       cells = more;
+      laid = ap one_result laid;
       taken = next ∙ sym takes;
       room = omega (arith, room, takes);
       heap = added;
@@ -163,6 +188,6 @@ vector-full old now list full items size not_fit same long is names store values
     let g = vector-gives old.values names store values list items is stand in
     let count : length items ≡ length g.0 = all-length old.values names (length old.values) items g.0 g.1 in
     let takes : cells_taken ListVector (value.Vector g.0 ∷ []) ≡ 1 + size = vector-takes g.0 ∙ ap (λ n. 1 + n) (sym count ∙ long) in
-    let M : Applied → Type 0 = λ a. IsMade ListVector names store old a now (Err full) in
+    let M : Applied → Type 0 = λ a. IsMade ListVector (list ∷ []) names store old a now (Err full) in
     let D : ℕ → Type 0 = λ n. DoNotFit old n full in
     subst M (sym g.2) (subst D (sym takes) not_fit, same)

@@ -24,6 +24,7 @@ use Rattle.rml_prims.specs.Shapes.{AreChars, IsList, IsText, OneSpelling, TwoTex
 use Rattle.rml_prims.specs.Found.{CanApply, Grows, IsMade, IsPlaced, Makes}
 use Rattle.rml_prims.proofs.PlainCells.{char-cell, char-low, char-value}
 use Rattle.rml_prims.proofs.Arguments.{One, Two, one-cells, one-given, one-told, one-values, two-cells, two-given, two-told, two-values}
+use Rattle.rml_prims.proofs.LaidCells.{LaysPlain}
 use Rattle.rml_prims.proofs.ListCells.{ListRead, is-list, list-read}
 use Rattle.rml_prims.proofs.MadeTexts.{IsCharged, full-text, made-text}
 use Rattle.rml_prims.proofs.PackedTexts.{chars-list}
@@ -31,10 +32,10 @@ use Rattle.rml_prims.proofs.TextCells.{any-text, append-each, is-text, text-byte
 
 -- ---- a text that was placed, if it fits
 
-placed-makes : (row : Row) (names : List ℕ) (store : Store) (before after : HeapState) (bytes : List ℕ) (result : Result Cell Full) → IsCharged row → EachByte bytes → form_before before.values (length before.values) ≢ form.Lvar
-    → IsPlaced bytes before after result → IsMade row names store before (gives_one (value.Text bytes) store) after result
-placed-makes row names store before after bytes (Ok c) charged each clear h = made-text row names store before after c bytes charged each clear h.0 h.1 h.2
-placed-makes row names store before after bytes (Err full) charged each clear h = full-text row names store before after full bytes charged h.0 h.1
+placed-makes : (row : Row) (inputs : List Cell) (names : List ℕ) (store : Store) (before after : HeapState) (bytes : List ℕ) (result : Result Cell Full) → LaysPlain row → IsCharged row → EachByte bytes → form_before before.values (length before.values) ≢ form.Lvar
+    → IsPlaced bytes before after result → IsMade row inputs names store before (gives_one (value.Text bytes) store) after result
+placed-makes row inputs names store before after bytes (Ok c) plain charged each clear h = made-text row inputs names store before after c bytes plain charged each clear h.0 h.1 h.2
+placed-makes row inputs names store before after bytes (Err full) plain charged each clear h = full-text row inputs names store before after full bytes charged h.0 h.1
 
 pub placed-grows : (before after : HeapState) (bytes : List ℕ) (result : Result Cell Full) → IsPlaced bytes before after result → Grows before after
 placed-grows before after bytes (Ok c) h = record { cells = text_cells bytes; is = h.1 }
@@ -62,8 +63,8 @@ joined-makes before after c d at size m n left right result first second placed 
     ap (λ ws. apply StringAppend ws store) told.2
     ∙ two-given bytes_in bytes_in (λ p. gives_one (value.Text (p.0 ++ p.1)) store) told.0 told.1 left right (text-bytes told.0 left first_is) (text-bytes told.1 right second_is)
     in
-    let M : Applied → Type 0 = λ a. IsMade StringAppend names store before a after result in
-    subst M (sym same) (placed-makes StringAppend names store before after (left ++ right) result (λ vs. refl) (append-each left right first.each second.each) binds.last placed)
+    let M : Applied → Type 0 = λ a. IsMade StringAppend (c ∷ d ∷ []) names store before a after result in
+    subst M (sym same) (placed-makes StringAppend (c ∷ d ∷ []) names store before after (left ++ right) result (λ cs is v. refl) (λ vs. refl) (append-each left right first.each second.each) binds.last placed)
 
 -- ---- the text of a list of characters
 
@@ -130,5 +131,5 @@ chars-makes before after c bytes result chars placed names store values binds st
     let same : apply ListString values store ≡ gives_one (value.Text bytes) store =
     ap (λ ws. apply ListString ws store) told.1 ∙ one-given chars_of (λ cs. gives_one (value.Text cs) store) told.0 bytes spelled
     in
-    let M : Applied → Type 0 = λ a. IsMade ListString names store before a after result in
-    subst M (sym same) (placed-makes ListString names store before after bytes result (λ vs. refl) chars.each binds.last placed)
+    let M : Applied → Type 0 = λ a. IsMade ListString (c ∷ []) names store before a after result in
+    subst M (sym same) (placed-makes ListString (c ∷ []) names store before after bytes result (λ cs is v. refl) (λ vs. refl) chars.each binds.last placed)

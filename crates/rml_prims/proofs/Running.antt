@@ -19,6 +19,7 @@ use Rattle.rml_trail.specs.TrailState.{TrailState}
 use Rattle.rml_prims.specs.declared.run.PrimEnd.TheVariants as prim
 use Rattle.rml_prims.specs.Binds.{Binds}
 use Rattle.rml_prims.specs.Taken.{cells_taken}
+use Rattle.rml_prims.specs.Laid.{AreLaid}
 use Rattle.rml_prims.specs.Found.{IsAdded, IsFinding, IsFound, IsMade, IsMaking, Finds, Makes}
 use Rattle.rml_prims.specs.Exact.{State, IsAnswered, IsExact, Runs, cells_kept, entries_kept}
 use Rattle.rml_prims.proofs.Bindings.{binds-added}
@@ -73,17 +74,19 @@ abbrev pub state : HeapState → TrailState → List Cell → State
 state heap trail outputs = record { heap = heap; trail = trail; outputs = outputs }
 
 pub answered-more : (row : Row) (inputs : List Cell) (names : List ℕ) (answer : Answer) (before after : HeapState) (trail : TrailState) (outputs : List Cell) (c : Cell) (more : List Cell)
-    → row ≢ LvarSet → length outputs ≡ 1 → length more ≡ cells_taken row answer.values → HasRoom before (cells_taken row answer.values)
+    → row ≢ LvarSet → length outputs ≡ 1 → AreLaid row before.values inputs answer.values more (c ∷ []) → length more ≡ cells_taken row answer.values → HasRoom before (cells_taken row answer.values)
     → after ≡ record before { values = before.values ++ more } → Binds after.values names answer.store → AllStand after.values names (length after.values) (c ∷ []) answer.values
     → IsAnswered row inputs names answer (state before trail outputs) (state after trail (set outputs 0 c))
-answered-more row inputs names answer before after trail outputs c more other places taken room added store results =
+answered-more row inputs names answer before after trail outputs c more other places laid taken room added store results =
     let N : List ℕ → Type 0 = λ ns. Binds after.values ns answer.store in
     let R : List ℕ → Type 0 = λ ns. AllStand after.values ns (length after.values) (set outputs 0 c) answer.values in
     let C : List Cell → Type 0 = λ cs. AllStand after.values names (length after.values) cs answer.values in
+    let L : List Cell → Type 0 = AreLaid row before.values inputs answer.values more in
     let none : names ++ [] ≡ names = append-nil names in
     record {
       cells = more;
       made = [];
+      laid = subst L (sym (one-place outputs c places)) laid;
       taken = taken;
       room = room;
       heap = added ∙ ap (λ (vs : List Cell). record before { values = vs ++ more }) (sym (cells-stay row other inputs before.values));
@@ -96,13 +99,13 @@ answered-more row inputs names answer before after trail outputs c more other pl
 
 found-end : (row : Row) (inputs : List Cell) (names : List ℕ) (store : Store) (heap : HeapState) (trail : TrailState) (outputs : List Cell) (c : Cell)
     → IsFinding row → cells_used heap ≤ heap.limit → length outputs ≡ 1 → Binds heap.values names store
-    → (a : Applied) → IsFound heap.values names store a (Some c) → IsExact row inputs names (state heap trail outputs) a (state heap trail (set outputs 0 c)) prim.Done
+    → (a : Applied) → IsFound row heap.values inputs names store a (Some c) → IsExact row inputs names (state heap trail outputs) a (state heap trail (set outputs 0 c)) prim.Done
 found-end row inputs names store heap trail outputs c is within places binds (Yes answer text) h =
     let none : 0 ≡ cells_taken row answer.values = sym (finding-takes row is answer.values) in
     let room : HasRoom heap (cells_taken row answer.values) = omega (arith, within, none) in
     let same : heap ≡ record heap { values = heap.values ++ [] } = ap (λ (vs : List Cell). record heap { values = vs }) (sym (append-nil heap.values)) in
     let B : Store → Type 0 = λ s. Binds heap.values names s in
-    answered-more row inputs names answer heap heap trail outputs c [] (finding-other row is) places none room same (subst B (sym h.0) binds) h.1
+    answered-more row inputs names answer heap heap trail outputs c [] (finding-other row is) places h.2 none room same (subst B (sym h.0) binds) h.1
 found-end row inputs names store heap trail outputs c is within places binds No h = h
 found-end row inputs names store heap trail outputs c is within places binds Wrong h = h
 
@@ -112,7 +115,7 @@ pub found-runs : (row : Row) (inputs : List Cell) (heap : HeapState) (trail : Tr
 found-runs row inputs heap trail outputs c is within places finds names store values binds stand =
     found-end row inputs names store heap trail outputs c is within places binds (apply row values store) (finds names store values stand)
 
-none-end : (row : Row) (inputs : List Cell) (names : List ℕ) (store : Store) (before : State) (a : Applied) → IsFound before.heap.values names store a None → IsExact row inputs names before a before prim.No
+none-end : (row : Row) (inputs : List Cell) (names : List ℕ) (store : Store) (before : State) (a : Applied) → IsFound row before.heap.values inputs names store a None → IsExact row inputs names before a before prim.No
 none-end row inputs names store before (Yes answer text) h = h
 none-end row inputs names store before No h = refl
 none-end row inputs names store before Wrong h = h
@@ -122,8 +125,8 @@ none-runs row inputs before finds names store values binds stand = none-end row 
 
 -- ---- rows that make a block
 
-binds-after : (row : Row) (names : List ℕ) (store : Store) (answer : Answer) (before after : HeapState) (c : Cell) → Binds before.values names store → IsAdded row names store answer before after c → Binds after.values names answer.store
-binds-after row names store answer before after c binds h =
+binds-after : (row : Row) (inputs : List Cell) (names : List ℕ) (store : Store) (answer : Answer) (before after : HeapState) (c : Cell) → Binds before.values names store → IsAdded row inputs names store answer before after c → Binds after.values names answer.store
+binds-after row inputs names store answer before after c binds h =
     let values : after.values ≡ before.values ++ h.cells = ap (λ (s : HeapState). s.values) h.heap in
     let L : List Cell → Type 0 = λ ws. form_before ws (length ws) ≢ form.Lvar in
     let B : List Cell → Type 0 = λ ws. Binds ws names store in
@@ -132,9 +135,9 @@ binds-after row names store answer before after c binds h =
 
 made-end : (row : Row) (inputs : List Cell) (names : List ℕ) (store : Store) (before after : HeapState) (trail : TrailState) (outputs : List Cell) (c : Cell)
     → IsMaking row → length outputs ≡ 1 → Binds before.values names store
-    → (a : Applied) → IsMade row names store before a after (Ok c) → IsExact row inputs names (state before trail outputs) a (state after trail (set outputs 0 c)) prim.Done
+    → (a : Applied) → IsMade row inputs names store before a after (Ok c) → IsExact row inputs names (state before trail outputs) a (state after trail (set outputs 0 c)) prim.Done
 made-end row inputs names store before after trail outputs c is places binds (Yes answer text) h =
-    answered-more row inputs names answer before after trail outputs c h.cells (making-other row is) places h.taken h.room h.heap (binds-after row names store answer before after c binds h) h.result
+    answered-more row inputs names answer before after trail outputs c h.cells (making-other row is) places h.laid h.taken h.room h.heap (binds-after row inputs names store answer before after c binds h) h.result
 made-end row inputs names store before after trail outputs c is places binds No h = h
 made-end row inputs names store before after trail outputs c is places binds Wrong h = h
 
@@ -145,7 +148,7 @@ made-runs row inputs before after trail outputs c is places makes names store va
     made-end row inputs names store before after trail outputs c is places binds (apply row values store) (makes names store values binds stand)
 
 full-end : (row : Row) (inputs : List Cell) (names : List ℕ) (store : Store) (before after : HeapState) (trail : TrailState) (outputs : List Cell) (full : Full)
-    → (a : Applied) → IsMade row names store before a after (Err full) → IsExact row inputs names (state before trail outputs) a (state after trail outputs) (prim.Full full.used full.need)
+    → (a : Applied) → IsMade row inputs names store before a after (Err full) → IsExact row inputs names (state before trail outputs) a (state after trail outputs) (prim.Full full.used full.need)
 full-end row inputs names store before after trail outputs full (Yes answer text) h = (h.0, ap (λ (s : HeapState). state s trail outputs) h.1)
 full-end row inputs names store before after trail outputs full No h = h
 full-end row inputs names store before after trail outputs full Wrong h = h

@@ -27,6 +27,7 @@ use Rattle.rml_prims.specs.Shapes.{IsText, OneText, TextAndInt, char_cell, int_c
 use Rattle.rml_prims.specs.Found.{CanApply, Finds, IsFound}
 use Rattle.rml_prims.proofs.PlainCells.{HasHead, char-stands, int-cell, int-value, one-cell, stands-head}
 use Rattle.rml_prims.proofs.Arguments.{One, Two, one-told, two-told, one-given, two-given, one-cells, two-cells, one-values, two-values}
+use Rattle.rml_prims.proofs.LaidCells.{char-laid}
 use Rattle.rml_prims.proofs.Calculations.{int_or_no, found-int, ranged-is}
 use Rattle.rml_prims.proofs.PlacedCells.{text-form}
 
@@ -257,8 +258,8 @@ text_length-finds cells c at size bytes h names store values stand =
     ap (λ ws. apply StringLength ws store) told.1 ∙ one-given bytes_in (λ t. ranged (pos (length t)) store) told.0 bytes (text-bytes told.0 bytes is)
     ∙ ap (λ n. ranged (pos n) store) h.long ∙ ranged-is (pos size) store
     in
-    let F : Applied → Type 0 = λ a. IsFound cells names store a (option_map int_cell (integer_of (pos size))) in
-    subst F (sym same) (found-int cells names store (integer_of (pos size)))
+    let F : Applied → Type 0 = λ a. IsFound StringLength cells (c ∷ []) names store a (option_map int_cell (integer_of (pos size))) in
+    subst F (sym same) (found-int StringLength (λ cs inputs v. refl) cells (c ∷ []) names store (integer_of (pos size)))
 
 pub int-finds : (cells : List Cell) (c : Cell) (at size : ℕ) (bytes : List ℕ) → IsText cells c at size bytes → Finds StringInt cells (c ∷ []) (option_map int_cell (read bytes))
 int-finds cells c at size bytes h names store values stand =
@@ -267,21 +268,21 @@ int-finds cells c at size bytes h names store values stand =
     let same : apply StringInt values store ≡ int_or_no store (read bytes) =
     ap (λ ws. apply StringInt ws store) told.1 ∙ one-given bytes_in (λ t. int_from t store) told.0 bytes (text-bytes told.0 bytes is)
     in
-    let F : Applied → Type 0 = λ a. IsFound cells names store a (option_map int_cell (read bytes)) in
-    subst F (sym same) (found-int cells names store (read bytes))
+    let F : Applied → Type 0 = λ a. IsFound StringInt cells (c ∷ []) names store a (option_map int_cell (read bytes)) in
+    subst F (sym same) (found-int StringInt (λ cs inputs v. refl) cells (c ∷ []) names store (read bytes))
 
-nth-char-found : (cells : List Cell) (names : List ℕ) (store : Store) (size : ℕ) (bytes : List ℕ) → length bytes ≡ size → EachByte bytes
-    → (n : ℤ) → IsFound cells names store (nth_char bytes n store) (option_map (λ i. char_cell (get_or bytes i 0)) (index_in n size))
-nth-char-found cells names store size bytes long each (negsuc n) = tt
-nth-char-found cells names store size bytes long each (pos i) =
-    let F : Option ℕ → Bool → Type 0 = λ o b. IsFound cells names store (or_no o (λ c. gives_one (value.Char c) store)) (option_map (λ j. char_cell (get_or bytes j 0)) (if b then Some i else None)) in
+nth-char-found : (cells inputs : List Cell) (names : List ℕ) (store : Store) (size : ℕ) (bytes : List ℕ) → length bytes ≡ size → EachByte bytes
+    → (n : ℤ) → IsFound StringNth cells inputs names store (nth_char bytes n store) (option_map (λ i. char_cell (get_or bytes i 0)) (index_in n size))
+nth-char-found cells inputs names store size bytes long each (negsuc n) = tt
+nth-char-found cells inputs names store size bytes long each (pos i) =
+    let F : Option ℕ → Bool → Type 0 = λ o b. IsFound StringNth cells inputs names store (or_no o (λ c. gives_one (value.Char c) store)) (option_map (λ j. char_cell (get_or bytes j 0)) (if b then Some i else None)) in
     let G : Bool → Type 0 = λ b. F (slice_get bytes i) b in
     elim (cases_lt i size) [
       | inl inside ↦
           let within : i < length bytes = omega (arith, inside, long) in
           let lt : nat_lt i size ≡ true = grind (arith, inside) in
           let H : Option ℕ → Type 0 = λ o. F o true in
-          subst G (sym lt) (subst H (sym (slice_get-get_or bytes i 0 within)) (refl, (char-stands cells names (length cells) (get_or bytes i 0) (each i), tt)))
+          subst G (sym lt) (subst H (sym (slice_get-get_or bytes i 0 within)) (refl, (char-stands cells names (length cells) (get_or bytes i 0) (each i), tt), char-laid StringNth (λ cs is v. refl) cells inputs (get_or bytes i 0)))
       | inr past ↦
           let none : slice_get bytes i ≡ None = slice_get_past bytes i (omega (arith, past, long)) in
           let lt : nat_lt i size ≡ false = grind (arith, past) in
@@ -297,5 +298,5 @@ nth_char-finds cells c at size bytes n h names store values stand =
     ap (λ ws. apply StringNth ws store) told.2
     ∙ two-given bytes_in int_of (λ p. nth_char p.0 p.1 store) told.0 told.1 bytes n (text-bytes told.0 bytes is) (int-value cells names (length cells) n told.1 told.4)
     in
-    let F : Applied → Type 0 = λ a. IsFound cells names store a (option_map (λ i. char_cell (get_or bytes i 0)) (index_in n size)) in
-    subst F (sym same) (nth-char-found cells names store size bytes h.long h.each n)
+    let F : Applied → Type 0 = λ a. IsFound StringNth cells (c ∷ int_cell n ∷ []) names store a (option_map (λ i. char_cell (get_or bytes i 0)) (index_in n size)) in
+    subst F (sym same) (nth-char-found cells (c ∷ int_cell n ∷ []) names store size bytes h.long h.each n)

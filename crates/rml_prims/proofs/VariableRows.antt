@@ -21,11 +21,12 @@ use Rattle.rml_heap.specs.Form as form
 use Rattle.rml_heap.specs.Form.{Form, IsWord, address, bare, form_of}
 use Rattle.rml_heap.specs.Reading.{cell_at, form_before, look, place_of, parts_of, block_value, read_block, read_form, value_below, Stands, AllStand}
 use Rattle.rml_trail.specs.TrailState.{TrailState}
-use Rattle.rml_heap.proofs.Callers.{added-block, before-end, block-address, block-form, fits-block, stands-no_lvar}
+use Rattle.rml_heap.proofs.Callers.{added-block, before-end, block-address, block-form, fits-block, stands-no_lvar, unset-form}
 use Rattle.rml_prims.specs.declared.run.PrimEnd.TheVariants as prim
 use Rattle.rml_prims.specs.Binds.{Binds, HoldsEntry, IsLvar}
-use Rattle.rml_prims.specs.Shapes.{IsVariable, block_cell, some_head}
+use Rattle.rml_prims.specs.Shapes.{IsVariable, block_cell, con_cell, some_head}
 use Rattle.rml_prims.specs.Taken.{cells_taken, option_cells_at}
+use Rattle.rml_prims.specs.Laid.{AreLaid, address_in, block_laid, content_of, one_result, option_laid}
 use Rattle.rml_prims.specs.Found.{CanApply, DoNotFit, Grows, IsMade, IsOption, Makes}
 use Rattle.rml_prims.specs.Exact.{State, IsExact, Runs}
 use Rattle.rml_prims.proofs.PlainCells.{con-stands}
@@ -161,6 +162,7 @@ new-runs before after trail outputs places room added names store [] binds stand
     record {
       cells = more;
       made = at ∷ [];
+      laid = let P : List Cell → Type 0 = AreLaid LvarNew before.values [] (value.Cell (length store) ∷ []) more in subst P (sym (one-place outputs (block_cell at) places)) refl;
       taken = refl;
       room = room;
       heap = added;
@@ -181,6 +183,9 @@ new-full before trail outputs full not_fit after same names store (v ∷ vs) bin
 
 -- ---- what one holds
 
+held-there : (cells : List Cell) (lvar : Cell) (at : ℕ) → lvar ≡ block_cell at → content_of cells lvar ≡ cell_at cells (suc at)
+held-there cells lvar at is = ap (λ n. cell_at cells (suc n)) (ap address_in (ap form_of is ∙ block-form at))
+
 some-form : form_of some_head ≡ form.ConBlock SOME 1
 unfolding form.form
 some-form = refl
@@ -194,15 +199,35 @@ none-cells = sym (ap (λ f. 0 + option_cells_at f) (outs-Con NONE []))
 some-cells : (w : Value) → 2 ≡ cells_taken LvarGet (value.Con SOME (w ∷ []) ∷ [])
 some-cells w = sym (ap (λ f. 0 + option_cells_at f) (outs-Con SOME (w ∷ [])))
 
-option-read : (names : List ℕ) (store : Store) (before after : HeapState) (at : ℕ) (result : Result Cell Full) → Binds before.values names store → cells_used before ≤ before.limit
+-- the cells of an option
+none-laid : (cells : List Cell) (lvar : Cell) (at : ℕ) (v : Value) → lvar ≡ block_cell at → cell_at cells (suc at) ≡ unset_cell → AreLaid LvarGet cells (lvar ∷ []) (v ∷ []) [] (con_cell NONE ∷ [])
+none-laid cells lvar at v is unset =
+    let content : content_of cells lvar ≡ unset_cell = held-there cells lvar at is ∙ unset in
+    ap (λ (d : Cell). one_result (option_laid (length cells) d (form_of d))) content ∙ ap (λ f. one_result (option_laid (length cells) unset_cell f)) unset-form
+
+word-laid : (at : ℕ) (content : Cell) (f : Form) → IsWord f → option_laid at content f ≡ block_laid at (some_head ∷ content ∷ [])
+word-laid at content (form.Int i) word = refl
+word-laid at content (form.Char c) word = refl
+word-laid at content (form.Rel r) word = refl
+word-laid at content (form.Block b) word = refl
+word-laid at content (form.Con c) word = refl
+word-laid at content _ word = absurd word
+
+some-laid : (cells : List Cell) (lvar : Cell) (at : ℕ) (v : Value) → lvar ≡ block_cell at → IsWord (form_of (cell_at cells (suc at)))
+    → AreLaid LvarGet cells (lvar ∷ []) (v ∷ []) (some_head ∷ cell_at cells (suc at) ∷ []) (block_cell (length cells) ∷ [])
+some-laid cells lvar at v is word =
+    ap (λ (d : Cell). one_result (option_laid (length cells) d (form_of d))) (held-there cells lvar at is) ∙ ap one_result (word-laid (length cells) (cell_at cells (suc at)) (form_of (cell_at cells (suc at))) word)
+
+option-read : (names : List ℕ) (store : Store) (before after : HeapState) (lvar : Cell) (at : ℕ) → lvar ≡ block_cell at → (result : Result Cell Full) → Binds before.values names store → cells_used before ≤ before.limit
     → IsOption before (cell_at before.values (suc at)) after result → (entry : Option Value) → HoldsEntry before.values names at entry
-    → IsMade LvarGet names store before (gives_one (option_value entry) store) after result
-option-read names store before after at (Ok c) binds within (inl h) None held =
+    → IsMade LvarGet (lvar ∷ []) names store before (gives_one (option_value entry) store) after result
+option-read names store before after lvar at is (Ok c) binds within (inl h) None held =
     let values : after.values ≡ before.values = ap (λ (s : HeapState). s.values) h.2 in
     let L : List Cell → Type 0 = λ ws. form_before ws (length ws) ≢ form.Lvar in
     let S : Cell → Type 0 = λ d. Stands after.values names (length after.values) d (value.Con NONE []) in
     record {
       cells = [];
+      laid = none-laid before.values lvar at (value.Con NONE []) is h.0 ∙ ap (λ (d : Cell). record { added = []; cells = d ∷ [] }) (sym h.1);
       taken = none-cells;
       room = let none = none-cells in omega (arith, within, none);
       heap = h.2 ∙ ap (λ (vs : List Cell). record before { values = vs }) (sym (append-nil before.values));
@@ -210,9 +235,9 @@ option-read names store before after at (Ok c) binds within (inl h) None held =
       stays = refl;
       result = (subst S (sym h.1) (con-stands after.values names (length after.values) NONE), tt);
     }
-option-read names store before after at (Ok c) binds within (inr h) None held = absurd (word-set (cell_at before.values (suc at)) h.0 held)
-option-read names store before after at (Ok c) binds within (inl h) (Some w) held = absurd (word-set (cell_at before.values (suc at)) (stands-word before.values names (length before.values) (cell_at before.values (suc at)) w held) h.0)
-option-read names store before after at (Ok c) binds within (inr h) (Some w) held =
+option-read names store before after lvar at is (Ok c) binds within (inr h) None held = absurd (word-set (cell_at before.values (suc at)) h.0 held)
+option-read names store before after lvar at is (Ok c) binds within (inl h) (Some w) held = absurd (word-set (cell_at before.values (suc at)) (stands-word before.values names (length before.values) (cell_at before.values (suc at)) w held) h.0)
+option-read names store before after lvar at is (Ok c) binds within (inr h) (Some w) held =
     let content : Cell = cell_at before.values (suc at) in
     let more : List Cell = some_head ∷ content ∷ [] in
     let values : after.values ≡ before.values ++ more = ap (λ (s : HeapState). s.values) h.3 in
@@ -227,6 +252,7 @@ option-read names store before after at (Ok c) binds within (inr h) (Some w) hel
     let C : Cell → Type 0 = λ d. Stands after.values names (length after.values) d (value.Con SOME (w ∷ [])) in
     record {
       cells = more;
+      laid = some-laid before.values lvar at (value.Con SOME (w ∷ [])) is h.0 ∙ ap (λ (d : Cell). record { added = more; cells = d ∷ [] }) (sym h.2);
       taken = some-cells w;
       room = let two = some-cells w in let r = h.1 in omega (arith, r, two);
       heap = h.3;
@@ -234,8 +260,8 @@ option-read names store before after at (Ok c) binds within (inr h) (Some w) hel
       stays = refl;
       result = (subst C (sym h.2) (subst S (sym values) stands), tt);
     }
-option-read names store before after at (Err full) binds within h None held = absurd (word-set (cell_at before.values (suc at)) h.0 held)
-option-read names store before after at (Err full) binds within h (Some w) held = let D : ℕ → Type 0 = λ n. DoNotFit before n full in (subst D (some-cells w) h.1, h.2)
+option-read names store before after lvar at is (Err full) binds within h None held = absurd (word-set (cell_at before.values (suc at)) h.0 held)
+option-read names store before after lvar at is (Err full) binds within h (Some w) held = let D : ℕ → Type 0 = λ n. DoNotFit before n full in (subst D (some-cells w) h.1, h.2)
 
 pub option-makes : (before after : HeapState) (c : Cell) (result : Result Cell Full) → cells_used before ≤ before.limit → (t : IsVariable before.values c)
     → IsOption before (cell_at before.values (suc t.at)) after result → Makes LvarGet before (c ∷ []) after result
@@ -249,8 +275,8 @@ option-makes before after c result within t is names store values binds stand =
     ap (λ ws. apply LvarGet ws store) told.1 ∙ one-given entry_of (λ k. get_lvar k store) told.0 number.k number.entry
     ∙ ap (λ o. or_wrong o (λ held. gives_one (option_value held) store)) there
     in
-    let M : Applied → Type 0 = λ a. IsMade LvarGet names store before a after result in
-    subst M (sym same) (option-read names store before after t.at result binds within is entry (binds.holds number.k t.at entry number.named there))
+    let M : Applied → Type 0 = λ a. IsMade LvarGet (c ∷ []) names store before a after result in
+    subst M (sym same) (option-read names store before after c t.at t.is result binds within is entry (binds.holds number.k t.at entry number.named there))
 
 -- ---- one that is set
 
@@ -268,6 +294,7 @@ set-exact names store before after trail trail_after lvar value at k w binds wit
     record {
       cells = [];
       made = [];
+      laid = refl;
       taken = refl;
       room = room;
       heap = heap ∙ ap (λ n. record before { values = set before.values n value }) (sym place) ∙ ap (λ (vs : List Cell). record before { values = vs }) (sym (append-nil (set before.values (suc (address lvar.number)) value)));

@@ -1,9 +1,10 @@
 -- The cells of a vector, and the rows that read one.
-use Rattle.std.proofs.Common.{◌≡◌, ◌≢◌, ℕ, zero, suc, ◌+◌, ◌<◌, ◌≤◌, ◌^◌, List, [], ◌∷◌, Bool, true, false, Option, Some, None, length, refl, sym, ap, subst, ◌∙◌, arith, inl, inr}
+use Rattle.std.proofs.Common.{◌≡◌, ◌≢◌, ℕ, zero, suc, ◌+◌, ◌<◌, ◌≤◌, ◌^◌, List, [], ◌∷◌, Bool, true, false, Option, Some, None, length, get_or, take, drop, refl, sym, ap, subst, ◌∙◌, arith, inl, inr}
 use Rattle.std.specs.Prelude.{slice_get, ℤ, pos, negsuc, nat_lt, if◌then◌else◌}
 use Rattle.std.specs.Option.{option_map}
 use Rattle.std.proofs.lemmas.Option.{slice_get_past}
 use Rattle.std.proofs.lemmas.Bool.{cases_lt}
+use Rattle.std.proofs.lemmas.List.{get_or-drop, get_or-take, get_or_default}
 use Rattle.rml_value.specs.declared.value.Value.{Value, out-Value}
 use Rattle.rml_value.specs.declared.value.Value.TheOpen.{Value-F}
 use Rattle.rml_value.specs.declared.value.Value.TheVariants as value
@@ -16,11 +17,13 @@ use Rattle.rml_builtin.specs.Vectors.{nth_item}
 use Rattle.rml_builtin.specs.Decimal.{integer_of}
 use Rattle.rml_builtin.specs.BuiltIns.{apply}
 use Rattle.rml_heap.specs.declared.cell.Cell.{Cell}
+use Rattle.rml_heap.specs.HeapState.{free_cell, unset_cell}
 use Rattle.rml_heap.specs.Form as form
 use Rattle.rml_heap.specs.Form.{Form, address, form_of, or_zero}
 use Rattle.rml_heap.specs.Reading.{cell_at, look, looks, parts_of, block_value, value_below, Stands, AllStand}
 use Rattle.rml_heap.proofs.Callers.{BlockStands, IsHead, below-higher, block-address, block-form, block-kind, block-made, block-stands, head-is, length-looks, outline, outline_of, stands-inside}
 use Rattle.rml_prims.specs.Shapes.{IsVector, OneVector, VectorAndInt, int_cell, vector_head, index_in}
+use Rattle.rml_prims.specs.Laid.{AreLaid, address_in, address_of as address_at, alone, one_result, vector_items as laid_items, vector_size}
 use Rattle.rml_prims.specs.Found.{CanApply, Finds, IsFound}
 use Rattle.rml_prims.proofs.PlainCells.{int-cell, int-value, one-cell, stands-head, HasHead}
 use Rattle.rml_prims.proofs.Arguments.{One, Two, one-told, two-told, one-given, two-given, one-cells, two-cells, one-values, two-values}
@@ -160,13 +163,36 @@ length-finds cells c at size h names store values stand =
     ap (λ ws. apply VectorLength ws store) told.1 ∙ one-given vector_of (λ ws. ranged (pos (length ws)) store) told.0 items.items (items-of told.0 items.items items.is)
     ∙ ap (λ n. ranged (pos n) store) items.size ∙ ranged-is (pos size) store
     in
-    let F : Applied → Type 0 = λ a. IsFound cells names store a (option_map int_cell (integer_of (pos size))) in
-    subst F (sym same) (found-int cells names store (integer_of (pos size)))
+    let F : Applied → Type 0 = λ a. IsFound VectorLength cells (c ∷ []) names store a (option_map int_cell (integer_of (pos size))) in
+    subst F (sym same) (found-int VectorLength (λ cs inputs v. refl) cells (c ∷ []) names store (integer_of (pos size)))
 
-nth-found : (cells : List Cell) (names : List ℕ) (store : Store) (at size : ℕ) (items : List Value) → length items ≡ size → at ≤ length cells → AllStand cells names at (looks cells (suc at) size) items
-    → (n : ℤ) → IsFound cells names store (nth_item items n store) (option_map (λ i. look cells (suc (at + i))) (index_in n size))
-nth-found cells names store at size items long within stand (negsuc n) = tt
-nth-found cells names store at size items long within stand (pos i) =
+-- where its items lie
+pub vector_items-are : (cells : List Cell) (c : Cell) (at size : ℕ) → IsVector cells c at size → laid_items cells c ≡ take size (drop (suc at) cells)
+vector_items-are cells c at size h =
+    let place : address_at c ≡ at = ap address_in (ap form_of h.is ∙ block-form at) in
+    let form_is : form_of (look cells at) ≡ form.Vector size = ap form_of h.head ∙ head-form size in
+    let P : Form → Type 0 = IsHead in
+    let there : look cells at ≡ cell_at cells at = head-is cells at (subst P (sym form_is) tt) in
+    let count : vector_size (form_of (cell_at cells at)) ≡ size = ap (λ (d : Cell). vector_size (form_of d)) (sym there) ∙ ap vector_size form_is in
+    ap (λ n. take (vector_size (form_of (cell_at cells n))) (drop (suc n) cells)) place ∙ ap (λ n. take n (drop (suc at) cells)) count
+
+pub item-there : (cells : List Cell) (at size i : ℕ) (d : Cell) → suc (at + size) ≤ length cells → i < size → get_or (take size (drop (suc at) cells)) i d ≡ cell_at cells (suc (at + i))
+item-there cells at size i d fits inside =
+    let there : suc at + i ≡ suc (at + i) = omega arith in
+    let within : suc (at + i) < length cells = omega (arith, fits, inside) in
+    get_or-take size (drop (suc at) cells) i d inside ∙ get_or-drop (suc at) cells i d ∙ ap (λ n. get_or cells n d) there ∙ get_or_default cells (suc (at + i)) d unset_cell within
+
+nth-laid : (cells : List Cell) (c : Cell) (at size i : ℕ) (v : Value) → IsVector cells c at size → i < size → AreLaid VectorNth cells (c ∷ int_cell (pos i) ∷ []) (v ∷ []) [] (look cells (suc (at + i)) ∷ [])
+nth-laid cells c at size i v h inside =
+    let item : get_or (laid_items cells c) i free_cell ≡ look cells (suc (at + i)) =
+    ap (λ cs. get_or cs i free_cell) (vector_items-are cells c at size h) ∙ item-there cells at size i free_cell h.fits inside ∙ sym (h.shown i inside)
+    in
+    ap (λ d. one_result (alone d)) item
+
+nth-found : (cells : List Cell) (c : Cell) (names : List ℕ) (store : Store) (at size : ℕ) (items : List Value) → IsVector cells c at size → length items ≡ size → at ≤ length cells → AllStand cells names at (looks cells (suc at) size) items
+    → (n : ℤ) → IsFound VectorNth cells (c ∷ int_cell n ∷ []) names store (nth_item items n store) (option_map (λ i. look cells (suc (at + i))) (index_in n size))
+nth-found cells c names store at size items vector long within stand (negsuc n) = tt
+nth-found cells c names store at size items vector long within stand (pos i) =
     elim (cases_lt i size) [
       | inl inside ↦
           let part = part-at cells names at size (suc at) i items inside stand in
@@ -174,14 +200,14 @@ nth-found cells names store at size items long within stand (pos i) =
           let S : ℕ → Type 0 = λ k. Stands cells names at (look cells k) part.0 in
           let here : Stands cells names at (look cells (suc (at + i))) part.0 = subst S there part.2 in
           let lt : nat_lt i size ≡ true = grind (arith, inside) in
-          let F : Option Value → Bool → Type 0 = λ o b. IsFound cells names store (or_no o (λ v. gives_one v store)) (option_map (λ j. look cells (suc (at + j))) (if b then Some i else None)) in
+          let F : Option Value → Bool → Type 0 = λ o b. IsFound VectorNth cells (c ∷ int_cell (pos i) ∷ []) names store (or_no o (λ v. gives_one v store)) (option_map (λ j. look cells (suc (at + j))) (if b then Some i else None)) in
           let G : Bool → Type 0 = λ b. F (slice_get items i) b in
           let H : Option Value → Type 0 = λ o. F o true in
-          subst G (sym lt) (subst H (sym part.1) (refl, ((here.0, below-higher here.0 cells names at (length cells) (look cells (suc (at + i))) part.0 within here.1), tt)))
+          subst G (sym lt) (subst H (sym part.1) (refl, ((here.0, below-higher here.0 cells names at (length cells) (look cells (suc (at + i))) part.0 within here.1), tt), nth-laid cells c at size i part.0 vector inside))
       | inr past ↦
           let none : slice_get items i ≡ None = slice_get_past items i (omega (arith, past, long)) in
           let lt : nat_lt i size ≡ false = grind (arith, past) in
-          let F : Option Value → Bool → Type 0 = λ o b. IsFound cells names store (or_no o (λ v. gives_one v store)) (option_map (λ j. look cells (suc (at + j))) (if b then Some i else None)) in
+          let F : Option Value → Bool → Type 0 = λ o b. IsFound VectorNth cells (c ∷ int_cell (pos i) ∷ []) names store (or_no o (λ v. gives_one v store)) (option_map (λ j. look cells (suc (at + j))) (if b then Some i else None)) in
           let G : Bool → Type 0 = λ b. F (slice_get items i) b in
           let H : Option Value → Type 0 = λ o. F o false in
           subst G (sym lt) (subst H (sym none) tt)
@@ -195,6 +221,6 @@ nth-finds cells c at size n h names store values stand =
     ap (λ ws. apply VectorNth ws store) told.2
     ∙ two-given vector_of int_of (λ p. nth_item p.0 p.1 store) told.0 told.1 items.items n (items-of told.0 items.items items.is) (int-value cells names (length cells) n told.1 told.4)
     in
-    let F : Applied → Type 0 = λ a. IsFound cells names store a (option_map (λ i. look cells (suc (at + i))) (index_in n size)) in
+    let F : Applied → Type 0 = λ a. IsFound VectorNth cells (c ∷ int_cell n ∷ []) names store a (option_map (λ i. look cells (suc (at + i))) (index_in n size)) in
     let within : at ≤ length cells = let w = items.fits in omega (arith, w) in
-    subst F (sym same) (nth-found cells names store at size items.items items.size within items.stand n)
+    subst F (sym same) (nth-found cells c names store at size items.items h items.size within items.stand n)

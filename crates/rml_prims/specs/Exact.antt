@@ -18,6 +18,7 @@ use Rattle.rml_prims.specs.declared.run.PrimEnd.{PrimEnd}
 use Rattle.rml_prims.specs.declared.run.PrimEnd.TheVariants as prim
 use Rattle.rml_prims.specs.Binds.{Binds}
 use Rattle.rml_prims.specs.Taken.{cells_taken}
+use Rattle.rml_prims.specs.Laid.{AreLaid}
 use Rattle.rml_prims.specs.Found.{CanApply, DoNotFit}
 
 -- a row can be run on these cells, which have a place for each of its results
@@ -42,11 +43,12 @@ abbrev pub entries_kept : Row → List Cell → List ℕ → List ℕ
 entries_kept LvarSet (lvar ∷ c ∷ []) entries = entries ++ suc (address lvar.number) ∷ []
 entries_kept row inputs entries = entries
 
--- an answer: cells were taken, as many as the results need, the cells stand for the store after it, where the logical variables
--- that were made have names too, and the results' cells for the results
+-- an answer: cells were taken, as many as the results need, and those and the results' cells are the ones that are laid; the cells stand
+-- for the store after it, where the logical variables that were made have names too, and the results' cells for the results
 pub record IsAnswered (row : Row) (inputs : List Cell) (names : List ℕ) (answer : Answer) (before after : State) : Type 0 where
   pub cells : List Cell
   pub made : List ℕ
+  pub laid : AreLaid row before.heap.values inputs answer.values cells after.outputs
   pub taken : length cells ≡ cells_taken row answer.values
   pub room : HasRoom before.heap (cells_taken row answer.values)
   pub heap : after.heap ≡ record before.heap { values = cells_kept row inputs before.heap.values ++ cells }

@@ -19,6 +19,7 @@ use Rattle.rml_heap.specs.Text.{words_for, text_cells}
 use Rattle.rml_prims.specs.Shapes.{block_cell, con_cell, some_head}
 use Rattle.rml_prims.specs.Binds.{Binds}
 use Rattle.rml_prims.specs.Taken.{cells_taken}
+use Rattle.rml_prims.specs.Laid.{AreLaid}
 
 -- the cells stand for a store and for arguments of which a row has a meaning
 pub record CanApply (row : Row) (cells inputs : List Cell) : Type 0 where
@@ -44,17 +45,17 @@ IsFinding ListVector = ⊥
 IsFinding VectorList = ⊥
 IsFinding row = Unit {0}
 
--- a cell that stands for the only result, or None for no answer; the store stays
-abbrev pub IsFound : List Cell → List ℕ → Store → Applied → Option Cell → Type 0
-IsFound cells names store (Yes answer text) (Some c) = (answer.store ≡ store) × AllStand cells names (length cells) (c ∷ []) answer.values
-IsFound cells names store (Yes answer text) None = ⊥
-IsFound cells names store No (Some c) = ⊥
-IsFound cells names store No None = Unit {0}
-IsFound cells names store Wrong found = ⊥
+-- a cell that stands for the only result, and is the one that is laid, or None for no answer; the store stays
+abbrev pub IsFound : Row → List Cell → List Cell → List ℕ → Store → Applied → Option Cell → Type 0
+IsFound row cells inputs names store (Yes answer text) (Some c) = (answer.store ≡ store) × AllStand cells names (length cells) (c ∷ []) answer.values × AreLaid row cells inputs answer.values [] (c ∷ [])
+IsFound row cells inputs names store (Yes answer text) None = ⊥
+IsFound row cells inputs names store No (Some c) = ⊥
+IsFound row cells inputs names store No None = Unit {0}
+IsFound row cells inputs names store Wrong found = ⊥
 
 -- whatever values and store the cells stand for
 abbrev pub Finds : Row → List Cell → List Cell → Option Cell → Type 0
-Finds row cells inputs found = (names : List ℕ) (store : Store) (values : List Value) → AllStand cells names (length cells) inputs values → IsFound cells names store (apply row values store) found
+Finds row cells inputs found = (names : List ℕ) (store : Store) (values : List Value) → AllStand cells names (length cells) inputs values → IsFound row cells inputs names store (apply row values store) found
 
 -- ---- rows that make a block
 
@@ -74,9 +75,10 @@ pub record DoNotFit (heap : HeapState) (needed : ℕ) (full : Full) : Type 0 whe
   pub used : full.used ≡ cells_used heap
   pub need : full.need ≡ needed
 
--- cells were added, so many, and one stands for the only result; the store stays
-pub record IsAdded (row : Row) (names : List ℕ) (store : Store) (answer : Answer) (before after : HeapState) (c : Cell) : Type 0 where
+-- cells were added, so many, and one stands for the only result; they are those that are laid; the store stays
+pub record IsAdded (row : Row) (inputs : List Cell) (names : List ℕ) (store : Store) (answer : Answer) (before after : HeapState) (c : Cell) : Type 0 where
   pub cells : List Cell
+  pub laid : AreLaid row before.values inputs answer.values cells (c ∷ [])
   pub taken : length cells ≡ cells_taken row answer.values
   pub room : HasRoom before (cells_taken row answer.values)
   pub heap : after ≡ record before { values = before.values ++ cells }
@@ -84,14 +86,14 @@ pub record IsAdded (row : Row) (names : List ℕ) (store : Store) (answer : Answ
   pub stays : answer.store ≡ store
   pub result : AllStand after.values names (length after.values) (c ∷ []) answer.values
 
-abbrev pub IsMade : Row → List ℕ → Store → HeapState → Applied → HeapState → Result Cell Full → Type 0
-IsMade row names store before (Yes answer text) after (Ok c) = IsAdded row names store answer before after c
-IsMade row names store before (Yes answer text) after (Err full) = DoNotFit before (cells_taken row answer.values) full × (after ≡ before)
-IsMade row names store before No after made = ⊥
-IsMade row names store before Wrong after made = ⊥
+abbrev pub IsMade : Row → List Cell → List ℕ → Store → HeapState → Applied → HeapState → Result Cell Full → Type 0
+IsMade row inputs names store before (Yes answer text) after (Ok c) = IsAdded row inputs names store answer before after c
+IsMade row inputs names store before (Yes answer text) after (Err full) = DoNotFit before (cells_taken row answer.values) full × (after ≡ before)
+IsMade row inputs names store before No after made = ⊥
+IsMade row inputs names store before Wrong after made = ⊥
 
 abbrev pub Makes : Row → HeapState → List Cell → HeapState → Result Cell Full → Type 0
-Makes row before inputs after made = (names : List ℕ) (store : Store) (values : List Value) → Binds before.values names store → AllStand before.values names (length before.values) inputs values → IsMade row names store before (apply row values store) after made
+Makes row before inputs after made = (names : List ℕ) (store : Store) (values : List Value) → Binds before.values names store → AllStand before.values names (length before.values) inputs values → IsMade row inputs names store before (apply row values store) after made
 
 -- a text was placed at the end of the values, if its cells fit
 abbrev pub IsPlaced : List ℕ → HeapState → HeapState → Result Cell Full → Type 0

@@ -18,7 +18,7 @@ pub loop-i-preserved : goal.loop-i-preserved
 loop-i-preserved c =
     let inside : c.loop-i.i < c.args.vector.size = omega (arith, c.loop-i-test.true) in
     listing-step c.args.heap.now c.args.vector.at c.args.vector.size c.loop-i.i c.loop-i.heap c.add_cons-list.new.heap c.loop-i.list c.item_at-item.result c.add_cons-list.result
-    c.requires.vector.1.fits inside c.loop-i.invariant c.item_at-item.ensures c.add_cons-list.ensures.made c.add_cons-list.ensures.cell
+    c.requires.vector.1.fits c.requires.vector.1.shown inside c.loop-i.invariant c.item_at-item.ensures c.add_cons-list.ensures.made c.add_cons-list.ensures.cell
 
 pub returns-clause-makes : goal.returns-clause-makes
 returns-clause-makes c =

@@ -1,6 +1,6 @@
 -- How the results of a built-in lie in cells. What they are is told by `apply` in rml_builtin, of the values and the store that the cells
 -- stand for; this says of which cells they are made. A value that a list, a vector or a logical variable holds is not copied: its cell is.
-use Rattle.std.specs.Prelude.{ℕ, zero, suc, ◌+◌, List, [], ◌∷◌, ◌++◌, length, take, drop, Option, Some, None, slice_index_or}
+use Rattle.std.specs.Prelude.{ℕ, zero, suc, ◌≡◌, ◌+◌, List, [], ◌∷◌, ◌++◌, length, take, drop, Option, Some, None, slice_index_or}
 use Rattle.rml_value.specs.declared.value.Value.{Value, out-Value}
 use Rattle.rml_value.specs.declared.value.Value.TheOpen.{Value-F}
 use Rattle.rml_value.specs.declared.value.TheConstants.{NIL, NONE}
@@ -77,9 +77,13 @@ abbrev pub items_at : (Cell → List Cell) → List Cell → ℕ → Form → Li
 items_at rest cells at form.ConsBlock = cell_at cells (suc at) ∷ rest (cell_at cells (suc (suc at)))
 items_at rest cells at _ = []
 
+abbrev pub items_in : (Cell → List Cell) → List Cell → Form → List Cell
+items_in rest cells (form.Block at) = items_at rest cells at (form_of (cell_at cells at))
+items_in rest cells _ = []
+
 abbrev pub list_items : ℕ → List Cell → Cell → List Cell
 list_items zero cells c = []
-list_items (suc n) cells c = items_at (list_items n cells) cells (address_of c) (form_of (cell_at cells (address_of c)))
+list_items (suc n) cells c = items_in (list_items n cells) cells (form_of c)
 
 -- the items of a vector
 abbrev pub vector_size : Form → ℕ
@@ -116,6 +120,13 @@ pub record Results : Type 0 where
   pub added : List Cell
   pub cells : List Cell
 
+abbrev pub one_result : Laid → Results
+one_result laid = record { added = laid.added; cells = laid.cell ∷ [] }
+
 abbrev pub results_laid : Row → List Cell → List Cell → List Value → Results
 results_laid row cells inputs [] = record { added = []; cells = [] }
-results_laid row cells inputs (v ∷ vs) = record { added = (result_laid row cells inputs v).added; cells = (result_laid row cells inputs v).cell ∷ [] }
+results_laid row cells inputs (v ∷ vs) = one_result (result_laid row cells inputs v)
+
+-- they are made of these cells, behind those that there are
+abbrev pub AreLaid : Row → List Cell → List Cell → List Value → List Cell → List Cell → Type 0
+AreLaid row cells inputs values added outputs = results_laid row cells inputs values ≡ record { added = added; cells = outputs }

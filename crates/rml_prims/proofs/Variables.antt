@@ -6,7 +6,7 @@ use Rattle.rml_heap.specs.HeapState.{lvar_head, unset_cell}
 use Rattle.rml_heap.specs.Form as form
 use Rattle.rml_heap.specs.Form.{form_of}
 use Rattle.rml_heap.specs.Reading.{cell_at}
-use Rattle.rml_code.specs.Standing.{is_lvar, lvars_from, lvars_in, NoHeads}
+use Rattle.rml_prims.specs.Standing.{is_lvar, lvars_from, lvars_in, NoHeads}
 
 -- a head, or none, before some cells
 listed : Bool → ℕ → List ℕ → List ℕ
