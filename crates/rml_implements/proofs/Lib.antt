@@ -1,0 +1,11 @@
+pub mod Runs
+pub mod Values
+pub mod Places
+pub mod Frames
+pub mod Meetings
+pub mod Reframed
+pub mod Parts
+pub mod Lines
+pub mod StateRules
+pub mod LineRules
+pub mod EndRules

@@ -1,0 +1,5 @@
+use Rattle.rml_implements.proofs.StateRules.{move-rule, load-rule, drop-rule, goto-rule, fewer-rule}
+use Rattle.rml_implements.proofs.laws.instructions_alone.Goals as goal
+
+pub returns : goal.returns
+returns c = record { moves = move-rule; loads = load-rule; drops = drop-rule; goes = goto-rule; fewer = fewer-rule }

@@ -1,0 +1,5 @@
+pub mod Given
+pub mod Layout
+pub mod World
+pub mod Implements
+pub mod Rules
