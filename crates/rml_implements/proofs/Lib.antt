@@ -9,3 +9,6 @@ pub mod Lines
 pub mod StateRules
 pub mod LineRules
 pub mod EndRules
+pub mod FrameRules
+pub mod GuardRules
+pub mod SetRules

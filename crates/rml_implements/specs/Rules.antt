@@ -1,18 +1,25 @@
 -- The rules by which instructions are shown to implement statements, one for each instruction and each line of continuation form.
 use Rattle.std.specs.Prelude.{◌≡◌, ◌≢◌, ℕ, ◌+◌, ◌-◌, ◌<◌, ◌≤◌, true, false, List, [], ◌∷◌, ◌++◌, length, Option, Some, slice_get}
+use Rattle.std.specs.List.{AllByRecursion}
 use Rattle.rml_value.specs.declared.value.Value.{Value}
 use Rattle.rml_fol.specs.declared.terms.Expression.TheVariants as expression
 use Rattle.rml_fol.specs.declared.statements.Callee.TheVariants as callee
-use Rattle.rml_fol.specs.Expressions.{Vals}
+use Rattle.rml_fol.specs.Expressions.{Vals, value_of}
+use Rattle.rml_terms.specs.Env.{Env}
+use Rattle.rml_fol.specs.declared.terms.Expression.{Expression}
 use Rattle.rml_cps.specs.declared.statements.Continuation.{Continuation}
 use Rattle.rml_cps.specs.declared.statements.Continuation.TheVariants as continuation
 use Rattle.rml_cps.specs.declared.statements.Stmt.{Stmt}
 use Rattle.rml_cps.specs.declared.statements.Stmt.TheVariants as stmt
-use Rattle.rml_cps.specs.Weights.{entry_weight, failure_weight, goto_weight}
+use Rattle.rml_cps.specs.Weights.{entry_weight, set_weight, failure_weight, goto_weight}
 use Rattle.rml_cps.specs.Statements.{RelationActs}
+use Rattle.rml_code.specs.declared.instructions.Word.{Word}
 use Rattle.rml_code.specs.declared.instructions.Instr.{Instr}
 use Rattle.rml_code.specs.declared.instructions.Instr.TheVariants as instr
-use Rattle.rml_implements.specs.Layout.{Place, in_register, Places, Has, Ready, moved, taken, Moved, Pending, Joint, Delayed, Layout, with_places, binding, naming_success, naming_failure, naming_body, NotAmong, Fewer, Resumed, Retried, Entered, Handed}
+use Rattle.rml_implements.specs.Layout.{Place, in_register, Places, Has, Ready, lost, moved, taken, Moved, Pending, Joint, Delayed, Layout, with_places, binding, naming_success, naming_failure, naming_body, NotAmong, Fewer, Resumed, Retried, Entered, Handed}
+use Rattle.rml_heap.specs.Form.{form_of}
+use Rattle.rml_code.specs.Effects.{word_cell}
+use Rattle.rml_implements.specs.World.{word_value, IsThere}
 use Rattle.rml_implements.specs.Implements.{Implements}
 
 module _ (vals : Vals) (calls : RelationActs) (rels registers : ℕ) (constants : ℕ → Option Value) (blocks : List (List Instr)) where
@@ -40,14 +47,14 @@ module _ (vals : Vals) (calls : RelationActs) (rels registers : ℕ) (constants 
   -- a frame is pushed for a success that is named. Its label loads registers and goes on with what implements its block
   abbrev pub SaveRule : Type 0
   SaveRule = (at : ℕ) (l : Layout) (spare : ℕ) (is : List Instr) (body : List Stmt) (k : ℕ) (p : Pending) (label : ℕ) (rs ss : List ℕ) (inner : Layout) (code : List Instr)
-      → l.pending k ≡ Some p → 3 + length ss ≤ spare → slice_get blocks label ≡ Some (instr.Resume rs ∷ code) → Resumed l p rs ss inner
+      → l.pending k ≡ Some p → 3 + length ss ≤ spare → slice_get blocks label ≡ Some (instr.Resume rs ∷ code) → AllByRecursion (λ r. r < registers) rs → Resumed l p rs ss inner
       → Does label inner (entry_weight (length p.params)) code p.body
       → Does at (record l { success = Some (continuation.Named k) }) (spare - (3 + length ss)) is body → Does at l spare (instr.Save label ss ∷ is) body
 
   -- and for a failure
   abbrev pub GuardRule : Type 0
   GuardRule = (at : ℕ) (l : Layout) (spare : ℕ) (is : List Instr) (body : List Stmt) (h : ℕ) (p : Delayed) (label : ℕ) (rs ss : List ℕ) (inner : Layout) (code : List Instr)
-      → l.delayed h ≡ Some p → 5 + length ss ≤ spare → slice_get blocks label ≡ Some (instr.Retry rs ∷ code) → Retried l p rs ss inner
+      → l.delayed h ≡ Some p → 5 + length ss ≤ spare → slice_get blocks label ≡ Some (instr.Retry rs ∷ code) → AllByRecursion (λ r. r < registers) rs → Retried l p rs ss inner
       → Does label inner (entry_weight 0) code p.body
       → Does at (record l { failures = Some (continuation.Named h) ∷ l.failures }) (spare - (5 + length ss)) is body → Does at l spare (instr.Guard label ss ∷ is) body
 
@@ -91,6 +98,24 @@ module _ (vals : Vals) (calls : RelationActs) (rels registers : ℕ) (constants 
   abbrev pub SameRule : Type 0
   SameRule = (at : ℕ) (l : Layout) (spare : ℕ) (is : List Instr) (x y : ℕ) (p : Place) (rest : List Stmt) → l.names.variables x ≡ false → Has l.places y p
       → Does at (binding x p l.places l) spare is rest → Does at l spare is (stmt.Set x (expression.Var y) ∷ rest)
+
+  -- ---- lines with an instruction
+
+  -- an expression that is worth the same whatever variables stand for
+  abbrev pub IsWorth : Expression → Value → Type 0
+  IsWorth e v = (env : Env) → value_of vals e env ≡ Some v
+
+  -- a variable stands for a value of one cell
+  abbrev pub WordRule : Type 0
+  WordRule = (at : ℕ) (l : Layout) (spare : ℕ) (is : List Instr) (x a : ℕ) (w : Word) (e : Expression) (v : Value) (new : Places) (rest : List Stmt) → a < registers → l.names.variables x ≡ false
+      → IsWorth e v → word_value (form_of (word_cell w)) ≡ Some v → IsThere rels (word_cell w) → Moved (lost a) l.places new
+      → Does at (binding x (in_register a) new l) (set_weight e + spare) is rest → Does at l spare (instr.Word a w ∷ is) (stmt.Set x e ∷ rest)
+
+  -- or for a constant
+  abbrev pub ConstRule : Type 0
+  ConstRule = (at : ℕ) (l : Layout) (spare : ℕ) (is : List Instr) (x a k : ℕ) (e : Expression) (v : Value) (new : Places) (rest : List Stmt) → a < registers → l.names.variables x ≡ false
+      → IsWorth e v → constants k ≡ Some v → Moved (lost a) l.places new
+      → Does at (binding x (in_register a) new l) (set_weight e + spare) is rest → Does at l spare (instr.Const a k ∷ is) (stmt.Set x e ∷ rest)
 
   -- ---- the ends of a block
 

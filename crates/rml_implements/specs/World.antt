@@ -6,6 +6,7 @@ use Rattle.std.specs.List.{AllByRecursion}
 use Rattle.rml_base.specs.Run.{Rest}
 use Rattle.rml_simulation.specs.Simulates.{Credit, nothing, Simulates}
 use Rattle.rml_value.specs.declared.value.Value.{Value}
+use Rattle.rml_value.specs.declared.value.Value.TheVariants as value
 use Rattle.rml_builtin.specs.Applied.{Store}
 use Rattle.rml_terms.specs.Env.{Env, look}
 use Rattle.rml_fol.specs.Expressions.{Vals}
@@ -14,7 +15,7 @@ use Rattle.rml_cps.specs.declared.statements.Continuation.TheVariants as continu
 use Rattle.rml_cps.specs.Statements.{OnAnswer, Jump, RelationActs, Scope, success_of, failure_of, body_of, block}
 use Rattle.rml_heap.specs.declared.cell.Cell.{Cell}
 use Rattle.rml_heap.specs.Form as form
-use Rattle.rml_heap.specs.Form.{form_of}
+use Rattle.rml_heap.specs.Form.{Form, form_of}
 use Rattle.rml_heap.specs.Reading.{cell_at, look as look_at, Stands}
 use Rattle.rml_trail.specs.Future.{Store as Moment, Future}
 use Rattle.rml_prims.specs.Binds.{Binds}
@@ -45,6 +46,15 @@ pub record Later (s t : State) : Type 0 where
   pub constants : t.constants ≡ s.constants
   pub limit : t.heap.limit ≡ s.heap.limit
   pub registers : length t.registers ≡ length s.registers
+
+-- ---- values of one cell
+
+abbrev pub word_value : Form → Option Value
+word_value (form.Int i) = Some (value.Int i)
+word_value (form.Char c) = Some (value.Char c)
+word_value (form.Rel r) = Some (value.Rel r)
+word_value (form.Con c) = Some (value.Con c [])
+word_value _ = None
 
 -- ---- values, where there are so many relations
 

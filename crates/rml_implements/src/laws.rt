@@ -5,7 +5,7 @@ ghost use Rattle.rml_value.specs.declared.value.Value.{Value};
 ghost use Rattle.rml_fol.specs.Expressions.{Vals};
 ghost use Rattle.rml_cps.specs.Statements.{RelationActs};
 ghost use Rattle.rml_code.specs.declared.instructions.Instr.{Instr};
-ghost use Rattle.rml_implements.specs.Rules.{MoveRule, LoadRule, DropRule, GotoRule, FewerRule, SuccessRule, FailureRule, EnterRule, BodyRule, FieldRule, SameRule, CallRule, AnswerRule, FailRule, HandRule};
+ghost use Rattle.rml_implements.specs.Rules.{MoveRule, LoadRule, DropRule, GotoRule, FewerRule, SuccessRule, FailureRule, EnterRule, BodyRule, FieldRule, SameRule, CallRule, AnswerRule, FailRule, HandRule, SaveRule, GuardRule, WordRule, ConstRule, CallValueRule};
 
 /// What holds whatever the lines are.
 pub fn instructions_alone()
@@ -32,4 +32,17 @@ pub fn ends_of_blocks()
     ensures answers { (vals : Vals) (calls : RelationActs) (rels registers : ℕ) (constants : ℕ → Option Value) (blocks : List (List Instr)) → AnswerRule vals calls rels registers constants blocks }
     ensures fails { (vals : Vals) (calls : RelationActs) (rels registers : ℕ) (constants : ℕ → Option Value) (blocks : List (List Instr)) → FailRule vals calls rels registers constants blocks }
     ensures hands { (vals : Vals) (calls : RelationActs) (rels registers : ℕ) (constants : ℕ → Option Value) (blocks : List (List Instr)) → HandRule vals calls rels registers constants blocks }
+{}
+
+/// Frames are pushed, and taken up at their labels.
+pub fn frames()
+    ensures saves { (vals : Vals) (calls : RelationActs) (rels registers : ℕ) (constants : ℕ → Option Value) (blocks : List (List Instr)) → SaveRule vals calls rels registers constants blocks }
+    ensures guards { (vals : Vals) (calls : RelationActs) (rels registers : ℕ) (constants : ℕ → Option Value) (blocks : List (List Instr)) → GuardRule vals calls rels registers constants blocks }
+{}
+
+/// A variable stands for a value of one cell or for a constant; and a call of a relation that a variable stands for.
+pub fn cells_alone()
+    ensures words { (vals : Vals) (calls : RelationActs) (rels registers : ℕ) (constants : ℕ → Option Value) (blocks : List (List Instr)) → WordRule vals calls rels registers constants blocks }
+    ensures constants { (vals : Vals) (calls : RelationActs) (rels registers : ℕ) (constants : ℕ → Option Value) (blocks : List (List Instr)) → ConstRule vals calls rels registers constants blocks }
+    ensures calls_of_values { (vals : Vals) (calls : RelationActs) (rels registers : ℕ) (constants : ℕ → Option Value) (blocks : List (List Instr)) → CallValueRule vals calls rels registers constants blocks }
 {}
