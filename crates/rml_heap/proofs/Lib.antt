@@ -6,6 +6,7 @@ pub mod Outlines
 pub mod Comparisons
 pub mod Told
 pub mod Tasks
+pub mod Passing
 pub mod Packing
 pub mod Blocks
 pub mod Callers

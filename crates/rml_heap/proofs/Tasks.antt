@@ -19,7 +19,7 @@ use Rattle.rml_heap.proofs.Told.{one-list, look-is, none-stands}
 -- ---- nesting
 
 -- the top below which what follows a list of tasks lies
-abbrev end_of : ℕ → List Task → ℕ
+abbrev pub end_of : ℕ → List Task → ℕ
 end_of top [] = top
 end_of top (task ∷ tasks) = end_of (task.left - 1) tasks
 
@@ -190,7 +190,7 @@ pub record Run (cells : List Cell) (names : List ℕ) (at m : ℕ) (vs : List Va
   pub stands : Stands cells names (at - 1) (look cells at) first
   pub left : RunStands cells names (at + 1) m rest
 
-run-split : (cells : List Cell) (names : List ℕ) (at m : ℕ) (vs : List Value) → RunStands cells names at (suc m) vs → Run cells names at m vs
+pub run-split : (cells : List Cell) (names : List ℕ) (at m : ℕ) (vs : List Value) → RunStands cells names at (suc m) vs → Run cells names at m vs
 run-split cells names at m [] h = absurd h
 run-split cells names at m (v ∷ vs) h =
     let low : at - 1 ≤ at + 1 - 1 = omega arith in

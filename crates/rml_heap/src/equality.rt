@@ -1,9 +1,9 @@
 //! Equality of the values that two cells stand for, by a list of runs of parts that are still to be compared.
 
-ghost use Rattle.std.specs.Prelude.{◌≡◌, ◌≢◌, ℕ, ◌+◌, ◌*◌, ◌/◌, ◌<◌, ◌≤◌, ◌↔◌, ◌^◌, ◌++◌, List, IsTrue, length, vec_len, vec_capacity};
+ghost use Rattle.std.specs.Prelude.{◌≡◌, ◌≢◌, ℕ, ◌+◌, ◌*◌, ◌/◌, ◌<◌, ◌≤◌, ◌↔◌, ◌^◌, ◌++◌, true, List, IsTrue, length, vec_len, vec_capacity};
 ghost use Rattle.rml_value.specs.declared.value.Value.{Value};
 ghost use Rattle.rml_heap.specs.Form.{Other, form_of};
-ghost use Rattle.rml_heap.specs.Reading.{Stands, parts_of as count_of_parts};
+ghost use Rattle.rml_heap.specs.Reading.{Stands, cell_at, parts_of as count_of_parts};
 ghost use Rattle.rml_heap.specs.Compared.{AreValues, Tells, rest_of, AreNested, AreReadable, Leaves, total};
 
 use crate::cell::{
@@ -97,6 +97,46 @@ fn put_back(tasks: &mut Vec<Task>, task: Task)
     }
 }
 
+/// How many of the first cells of a task are the same on both sides, of all but the last.
+fn same_cells(cells: &[Cell], task: Task) -> u32
+    requires some { 0 < task.count }
+    requires left { task.left + task.count ≤ length cells.now }
+    requires right { task.right + task.count ≤ length cells.now }
+    requires small { length cells.now < 2 ^ 31 }
+    ensures within { result < task.count }
+    ensures same { (i : ℕ) → i < result → cell_at cells.now (task.left + i) ≡ cell_at cells.now (task.right + i) }
+{
+    for i in 0..task.count - 1 {
+        if cells[(task.left + i) as usize] != cells[(task.right + i) as usize] {
+            return i;
+        }
+    }
+    task.count - 1
+}
+
+/// Passes over the first cells of the last task that are the same on both sides, but not over its last: the words of a text, one by one.
+fn pass(cells: &[Cell], tasks: &mut Vec<Task>)
+    requires small { length cells.now < 2 ^ 31 }
+    requires some { 0 < vec_len tasks.old }
+    requires nested { AreNested (length cells.now) tasks.old.items }
+    requires readable { (names : List ℕ) × AreReadable cells.now names tasks.old.items }
+    ensures left { (names : List ℕ) → AreReadable cells.now names tasks.old.items → Leaves cells.now names tasks.old.items tasks.new.items true }
+    ensures nested { AreNested (length cells.now) tasks.new.items }
+    ensures total { total tasks.new.items ≤ total tasks.old.items }
+    ensures some { 0 < vec_len tasks.new }
+    ensures room { vec_capacity tasks.old ≤ vec_capacity tasks.new }
+{
+    let task = tasks.pop().unwrap();
+    let same = same_cells(cells, task);
+    tasks
+        .push(Task {
+            left: task.left + same,
+            right: task.right + same,
+            count: task.count - same,
+        })
+        .unwrap();
+}
+
 /// Compares the first two cells of the last task. Answers false where they are different.
 fn step(cells: &[Cell], tasks: &mut Vec<Task>) -> bool
     requires small { length cells.now < 2 ^ 31 }
@@ -136,6 +176,7 @@ pub fn are_equal(cells: &[Cell], tasks: &mut Vec<Task>, a: Cell, b: Cell) -> boo
         Compared::Parts(task) => tasks.push(task).unwrap(),
     }
     'tasks: while !tasks.is_empty() {
+        pass(cells, tasks);
         if !step(cells, tasks) {
             return false;
         }

@@ -140,6 +140,17 @@ impl Heap {
         self.values.push(cell).unwrap();
     }
 
+    /// Hands out so many more cells of values, which hold what the cells from an address on hold.
+    pub fn add_again(&mut self, at: u32, n: u32)
+        requires within { at + n ≤ length self.old.values }
+        requires room { HasRoom self.old n }
+        ensures { self.new ≡ record self.old { values = self.old.values ++ take n (drop at self.old.values) } }
+    {
+        self.values
+            .extend_from_within(at as usize..(at + n) as usize)
+            .unwrap();
+    }
+
     /// Hands out one more cell of frames, below those that stand, which holds this. So a frame is built from its last cell on.
     pub fn stack(&mut self, cell: Cell)
         requires { HasRoom self.old 1 }

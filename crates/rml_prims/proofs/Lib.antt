@@ -18,6 +18,7 @@ pub mod SpelledLists
 pub mod ReadNumerals
 pub mod PackedTexts
 pub mod PackedRows
+pub mod Joining
 pub mod Shifted
 pub mod Variables
 pub mod StandingCells

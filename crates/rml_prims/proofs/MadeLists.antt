@@ -1,6 +1,7 @@
 -- Rows whose result is a list, whose last `::` is placed first.
 use Rattle.std.proofs.Common.{◌≡◌, ◌≢◌, ℕ, zero, suc, ◌+◌, ◌-◌, ◌*◌, ◌<◌, ◌≤◌, List, [], ◌∷◌, ◌++◌, Some, None, Ok, Err, length, take, drop, refl, sym, ap, subst, ◌∙◌, arith, append_assoc, length-append, zero-add}
 use Rattle.std.specs.Prelude.{slice_get, sum_by}
+use Rattle.std.proofs.Math.ListN.{drop_of_length-le}
 use Rattle.std.proofs.lemmas.List.{append-nil, get_or_append_left, length-drop, length-take, length-take-le}
 use Rattle.std.proofs.lemmas.Option.{slice_get-get_or}
 use Rattle.rml_value.specs.declared.value.Value.{Value}
@@ -93,12 +94,6 @@ onto-laid start items item rest cells list next is laid next_is =
 pub none-laid : (start : ℕ) (items : List Cell) (list : Cell) → items ≡ [] → list ≡ con_cell NIL → list_laid start items ≡ record { added = []; cell = list }
 none-laid start items list none is = ap (list_laid start) none ∙ ap alone (sym is)
 
-pub drop-past : {A : Type 0} (xs : List A) (n : ℕ) → length xs ≤ n → drop n xs ≡ []
-drop-past [] zero h = refl
-drop-past [] (suc n) h = refl
-drop-past (x ∷ xs) zero h = absurd (omega (arith, h))
-drop-past (x ∷ xs) (suc n) h = drop-past xs n (omega (arith, h))
-
 pub listing-start : (old : HeapState) (at size : ℕ) (list : Cell) → list ≡ con_cell NIL → Listing old at size 0 old list
 listing-start old at size list is =
     record {
@@ -107,7 +102,7 @@ listing-start old at size list is =
       long = refl;
       laid = let short = length-take size (drop (suc at) old.values) in
           let past : length (take size (drop (suc at) old.values)) ≤ size - 0 = omega (arith, short) in
-          none-laid (length old.values) (drop (size - 0) (take size (drop (suc at) old.values))) list (drop-past (take size (drop (suc at) old.values)) (size - 0) past) is;
+          none-laid (length old.values) (drop (size - 0) (take size (drop (suc at) old.values))) list (drop_of_length-le (take size (drop (suc at) old.values)) past) is;
       listed = λ names items clear parts.
           let none : drop (size - 0) items ≡ [] = let e : size - 0 ≡ length items = let l = parts.size_is in omega (arith, l) in ap (λ n. drop n items) e ∙ drop-all items in
           let V : List Value → Type 0 = λ vs. Stands old.values names (length old.values) list (list_of vs) in

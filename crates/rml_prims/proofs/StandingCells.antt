@@ -9,7 +9,7 @@ use Rattle.rml_heap.specs.declared.cell.Cell.{Cell}
 use Rattle.rml_heap.specs.HeapState.{unset_cell}
 use Rattle.rml_heap.specs.Form as form
 use Rattle.rml_heap.specs.Form.{Form, IsWord, form_of}
-use Rattle.rml_heap.specs.Reading.{cell_at, form_before, look, Stands, AllStand}
+use Rattle.rml_heap.specs.Reading.{cell_at, form_before, Stands, AllStand}
 use Rattle.rml_heap.proofs.Callers.{below-shallow, look-shown, map-some, stands-no_lvar, then-some, unset-form}
 use Rattle.rml_prims.specs.Standing.{each_of, is_lvar, lvars_from, lvars_in, value_in, values_in, entry_at, entry_in, store_in}
 use Rattle.rml_prims.specs.Binds.{Binds, HoldsEntry, IsLvar}

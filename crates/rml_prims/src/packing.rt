@@ -1,13 +1,13 @@
 //! Texts that are made of what stands in cells, eight bytes at a time: of two texts, and of a list of characters.
 
-ghost use Rattle.std.specs.Prelude.{ℕ, ◌≡◌, ◌+◌, ◌*◌, ◌^◌, ◌<◌, ◌++◌, List, drop, length, slice_index};
+ghost use Rattle.std.specs.Prelude.{ℕ, ◌≡◌, ◌+◌, ◌-◌, ◌*◌, ◌/◌, ◌%◌, ◌^◌, ◌<◌, ◌++◌, List, drop, length, map, slice_index};
 ghost use Rattle.rml_heap.specs.HeapState.{HasRoom};
-ghost use Rattle.rml_heap.specs.Text.{text_cells, word_of_bytes, words_for as words_for_bytes};
+ghost use Rattle.rml_heap.specs.Text.{packed, text_cells, word_cell, word_of_bytes, words_for as words_for_bytes};
 ghost use Rattle.rml_prims.specs.Shapes.{AreChars, AreJoined};
 ghost use Rattle.rml_prims.specs.Found.{IsPlaced};
 
 use crate::lists::{item_of, list_size, tail_of};
-use crate::texts::{TextBlock, byte_at, word_from, words_for};
+use crate::texts::{TextBlock, across, bits_at, byte_at, words_for};
 use crate::words::{block, int, room_for, text_head};
 use rml_heap::{BLOCK, Cell, Full, Heap, count_of};
 
@@ -38,19 +38,23 @@ fn middle_word(heap: &Heap, first: TextBlock, second: TextBlock, k: u32) -> i64
     i64::from_le_bytes(word)
 }
 
-/// A word of two texts, one after the other.
-fn joined_word(heap: &Heap, first: TextBlock, second: TextBlock, k: u32) -> i64
-    requires texts { (bytes : List ℕ) × AreJoined heap.now.values first.at first.size second.at second.size bytes }
-    requires small { k < 2 ^ 27 }
-    ensures { (bytes : List ℕ) → AreJoined heap.now.values first.at first.size second.at second.size bytes → result ≡ word_of_bytes (drop (8 * k) bytes) }
+/// Adds the words of two texts, one after the other, from the word on in which the first ends and the second begins. Each word of the
+/// second is read once.
+fn add_shifted(heap: &mut Heap, first: TextBlock, second: TextBlock)
+    requires texts { (bytes : List ℕ) × AreJoined heap.old.values first.at first.size second.at second.size bytes }
+    requires midst { 0 < first.size % 8 }
+    requires room { HasRoom heap.old (words_for_bytes (first.size + second.size) - first.size / 8) }
+    ensures { (bytes : List ℕ) → AreJoined heap.old.values first.at first.size second.at second.size bytes → heap.new ≡ record heap.old { values = heap.old.values ++ map word_cell (packed (words_for_bytes (first.size + second.size) - first.size / 8) (drop (8 * (first.size / 8)) bytes)) } }
 {
-    let at = 8 * k;
-    if at + 8 <= first.size {
-        word_from(heap, first, at)
-    } else if first.size <= at {
-        word_from(heap, second, at - first.size)
-    } else {
-        middle_word(heap, first, second, k)
+    let _used = heap.used();
+    let whole = first.size / 8;
+    let word = middle_word(heap, first, second, whole);
+    heap.add(int(word));
+    let mut before = bits_at(heap, second, 0);
+    for k in 0..words_for(first.size + second.size) - whole - 1 {
+        let next = bits_at(heap, second, k + 1);
+        heap.add(int(across(before, next, 8 - first.size % 8).cast_signed()));
+        before = next;
     }
 }
 
@@ -61,11 +65,12 @@ fn add_joined(heap: &mut Heap, first: TextBlock, second: TextBlock)
     ensures { (bytes : List ℕ) → AreJoined heap.old.values first.at first.size second.at second.size bytes → heap.new ≡ record heap.old { values = heap.old.values ++ text_cells bytes } }
 {
     let _used = heap.used();
-    let size = first.size + second.size;
-    heap.add(text_head(size));
-    for k in 0..words_for(size) {
-        let word = joined_word(heap, first, second, k);
-        heap.add(int(word));
+    heap.add(text_head(first.size + second.size));
+    heap.add_again(first.at + 1, first.size / 8);
+    if first.size % 8 == 0 {
+        heap.add_again(second.at + 1, words_for(second.size));
+    } else {
+        add_shifted(heap, first, second);
     }
 }
 

@@ -55,7 +55,7 @@ pub fn byte_at(heap: &Heap, text: TextBlock, i: u32) -> u8
 }
 
 /// A word of a text by its number, as bits, and 0 past the end.
-fn bits_at(heap: &Heap, text: TextBlock, k: u32) -> u64
+pub fn bits_at(heap: &Heap, text: TextBlock, k: u32) -> u64
     requires text { (c : Cell) × (bytes : List ℕ) × IsText heap.now.values c text.at text.size bytes }
     requires small { k < 2 ^ 28 }
     ensures { (c : Cell) (bytes : List ℕ) → IsText heap.now.values c text.at text.size bytes → result ≡ from_le_bytes w64 (drop (8 * k) bytes) }
@@ -68,7 +68,7 @@ fn bits_at(heap: &Heap, text: TextBlock, k: u32) -> u64
 }
 
 /// The word that begins so many bytes into a word that another follows.
-fn across(first: u64, second: u64, bytes: u32) -> u64
+pub fn across(first: u64, second: u64, bytes: u32) -> u64
     requires { bytes < 8 }
     ensures { (bs : List ℕ) → ((i : ℕ) → slice_index bs i < 256) → first ≡ from_le_bytes w64 bs → second ≡ from_le_bytes w64 (drop 8 bs) → result ≡ from_le_bytes w64 (drop bytes bs) }
 {
@@ -77,15 +77,4 @@ fn across(first: u64, second: u64, bytes: u32) -> u64
     } else {
         second << (64 - 8 * bytes) | first >> (8 * bytes)
     }
-}
-
-/// The word of eight bytes of a text, from one of them on. Bytes past the end are 0.
-pub fn word_from(heap: &Heap, text: TextBlock, i: u32) -> i64
-    requires text { (c : Cell) × (bytes : List ℕ) × IsText heap.now.values c text.at text.size bytes }
-    requires small { i < 2 ^ 30 }
-    ensures { (c : Cell) (bytes : List ℕ) → IsText heap.now.values c text.at text.size bytes → result ≡ word_of_bytes (drop i bytes) }
-{
-    let first = bits_at(heap, text, i / 8);
-    let second = bits_at(heap, text, i / 8 + 1);
-    across(first, second, i % 8).cast_signed()
 }

@@ -41,26 +41,34 @@ tasks-init c =
           subst P (sym pushed) ((told.readable, tt), (λ same. (told.same.0 same, tt), λ each. told.same.1 each.0));
     }
 
+pub pass-requires-clause-readable : goal.pass-requires-clause-readable
+pass-requires-clause-readable c =
+    let values = c.requires.values in
+    (values.names, (c.tasks.invariant.waits values.names values.top values.below values.left values.right values.left_stands values.right_stands).0)
+
 pub step-requires-clause-readable : goal.step-requires-clause-readable
 step-requires-clause-readable c =
     let values = c.requires.values in
-    (values.names, (c.tasks.invariant.waits values.names values.top values.below values.left values.right values.left_stands values.right_stands).0)
+    let waits = c.tasks.invariant.waits values.names values.top values.below values.left values.right values.left_stands values.right_stands in
+    (values.names, (c.pass.ensures.left values.names waits.0).0)
 
 pub returns-then-not-step-clause-equal : goal.returns-then-not-step-clause-equal
 returns-then-not-step-clause-equal c = λ names top below v w h k.
     let waits = c.tasks.invariant.waits names top below v w h k in
-    (λ f. absurd (cc), λ same. absurd (c.if-not-step.ensures.left names waits.0 (waits.1.0 same)))
+    let over = c.pass.ensures.left names waits.0 in
+    (λ f. absurd (cc), λ same. absurd (c.if-not-step.ensures.left names over.0 (over.1.0 (waits.1.0 same))))
 
 pub tasks-preserved : goal.tasks-preserved
 tasks-preserved c =
     record {
       nested = c.if-not-step.ensures.nested refl;
-      room = omega (arith, c.tasks.invariant.room, c.step.ensures.room);
-      grown = omega (arith, c.tasks.invariant.grown, c.step.ensures.room);
+      room = omega (arith, c.tasks.invariant.room, c.pass.ensures.room, c.step.ensures.room);
+      grown = omega (arith, c.tasks.invariant.grown, c.pass.ensures.room, c.step.ensures.room);
       waits = λ names top below v w h k.
           let waits = c.tasks.invariant.waits names top below v w h k in
-          let left = c.if-not-step.ensures.left names waits.0 in
-          (left.0, (λ same. left.1.0 (waits.1.0 same), λ each. waits.1.1 (left.1.1 each)));
+          let over = c.pass.ensures.left names waits.0 in
+          let left = c.if-not-step.ensures.left names over.0 in
+          (left.0, (λ same. left.1.0 (over.1.0 (waits.1.0 same)), λ each. waits.1.1 (over.1.1 (left.1.1 each))));
     }
 
 pub returns-clause-equal : goal.returns-clause-equal
