@@ -4,6 +4,7 @@ pub mod Places
 pub mod Frames
 pub mod Meetings
 pub mod Reframed
+pub mod Built
 pub mod Parts
 pub mod Lines
 pub mod StateRules
@@ -12,3 +13,4 @@ pub mod EndRules
 pub mod FrameRules
 pub mod GuardRules
 pub mod SetRules
+pub mod PackRules

@@ -1,6 +1,6 @@
 -- What is known at a place of the code while it is made: which names are taken, where each variable is, which continuations the last frames
 -- stand for, and what is named and has no frame yet.
-use Rattle.std.specs.Prelude.{◌≡◌, ◌≢◌, ◌⊎◌, ℕ, suc, ◌<◌, Bool, true, false, ◌==◌, if◌then◌else◌, List, [], ◌∷◌, length, Option, Some, None}
+use Rattle.std.specs.Prelude.{◌≡◌, ◌≢◌, ◌⊎◌, ℕ, zero, suc, ◌<◌, Bool, true, false, ◌==◌, if◌then◌else◌, List, [], ◌∷◌, length, Option, Some, None, slice_get}
 use Rattle.rml_cps.specs.declared.statements.Continuation.{Continuation}
 use Rattle.rml_cps.specs.declared.statements.Continuation.TheVariants as continuation
 use Rattle.rml_cps.specs.declared.statements.Stmt.{Stmt}
@@ -102,6 +102,19 @@ saved_as (r ∷ rs) (s ∷ ss) x = if r == x then Some s else saved_as rs ss x
 abbrev pub from_frame : List ℕ → List ℕ → Source
 from_frame rs ss p = at_path (saved_as rs ss p.register) p.path
 
+-- the register that is part i of a new block, from 1
+abbrev pub part_register : List ℕ → ℕ → Option ℕ
+part_register rs zero = None
+part_register rs (suc i) = slice_get rs i
+
+abbrev pub in_block : List ℕ → List ℕ → Option Place
+in_block rs [] = None
+in_block rs (i ∷ path) = at_path (part_register rs i) path
+
+-- register a gets a new block of these registers
+abbrev pub packed : ℕ → List ℕ → Source
+packed a rs p = if p.register == a then in_block rs p.path else Some p
+
 -- no register is loaded twice
 abbrev pub AllOther : ℕ → List ℕ → Type 0
 AllOther r [] = Unit {0}
@@ -114,6 +127,11 @@ AllApart (r ∷ rs) = AllOther r rs × AllApart rs
 -- each place of the new ones was a place of the same variable before
 pub record Moved (source : Source) (old new : Places) : Type 0 where
   pub from : (x : ℕ) (p : Place) → Has new x p → (q : Place) × (source p ≡ Some q) × Has old x q
+
+-- each register is the place of a variable, or leads to one
+abbrev pub AllKnown : List ℕ → Names → Places → Type 0
+AllKnown [] n ps = Unit {0}
+AllKnown (r ∷ rs) n ps = ((x : ℕ) × (p : Place) × (n.variables x ≡ true) × Has ps x p × (p.register ≡ r)) × AllKnown rs n ps
 
 -- ---- what is named and has no frame
 

@@ -1,5 +1,5 @@
 -- The rules by which instructions are shown to implement statements, one for each instruction and each line of continuation form.
-use Rattle.std.specs.Prelude.{◌≡◌, ◌≢◌, ℕ, ◌+◌, ◌-◌, ◌<◌, ◌≤◌, true, false, List, [], ◌∷◌, ◌++◌, length, Option, Some, slice_get}
+use Rattle.std.specs.Prelude.{◌≡◌, ◌≢◌, ℕ, suc, ◌+◌, ◌-◌, ◌<◌, ◌≤◌, true, false, List, [], ◌∷◌, ◌++◌, length, Option, Some, slice_get}
 use Rattle.std.specs.List.{AllByRecursion}
 use Rattle.rml_value.specs.declared.value.Value.{Value}
 use Rattle.rml_fol.specs.declared.terms.Expression.TheVariants as expression
@@ -16,7 +16,7 @@ use Rattle.rml_cps.specs.Statements.{RelationActs}
 use Rattle.rml_code.specs.declared.instructions.Word.{Word}
 use Rattle.rml_code.specs.declared.instructions.Instr.{Instr}
 use Rattle.rml_code.specs.declared.instructions.Instr.TheVariants as instr
-use Rattle.rml_implements.specs.Layout.{Place, in_register, Places, Has, Ready, lost, moved, taken, Moved, Pending, Joint, Delayed, Layout, with_places, binding, naming_success, naming_failure, naming_body, NotAmong, Fewer, Resumed, Retried, Entered, Handed}
+use Rattle.rml_implements.specs.Layout.{Place, in_register, Places, Has, Ready, lost, moved, taken, packed, AllKnown, Moved, Pending, Joint, Delayed, Layout, with_places, binding, naming_success, naming_failure, naming_body, NotAmong, Fewer, Resumed, Retried, Entered, Handed}
 use Rattle.rml_heap.specs.Form.{form_of}
 use Rattle.rml_code.specs.Effects.{word_cell}
 use Rattle.rml_implements.specs.World.{word_value, IsThere}
@@ -38,6 +38,11 @@ module _ (vals : Vals) (calls : RelationActs) (rels registers : ℕ) (constants 
   LoadRule = (at : ℕ) (l : Layout) (spare : ℕ) (is : List Instr) (body : List Stmt) (x a b i : ℕ) (path : List ℕ) (new : Places) → a < registers
       → l.names.variables x ≡ true → Has l.places x (record { register = b; path = i ∷ path }) → Moved (taken a b i) l.places new
       → Does at (with_places new l) spare is body → Does at l spare (instr.Field a b i ∷ is) body
+
+  -- registers are kept in a new tuple, which is paid by what was weighed
+  abbrev pub PackRule : Type 0
+  PackRule = (at : ℕ) (l : Layout) (spare : ℕ) (is : List Instr) (body : List Stmt) (a : ℕ) (rs : List ℕ) (new : Places) → a < registers → suc (length rs) ≤ spare → AllKnown rs l.names l.places → Moved (packed a rs) l.places new
+      → Does at (with_places new l) (spare - suc (length rs)) is body → Does at l spare (instr.Tuple a rs ∷ is) body
 
   -- the last failure frame is forgotten
   abbrev pub DropRule : Type 0

@@ -5,12 +5,13 @@ ghost use Rattle.rml_value.specs.declared.value.Value.{Value};
 ghost use Rattle.rml_fol.specs.Expressions.{Vals};
 ghost use Rattle.rml_cps.specs.Statements.{RelationActs};
 ghost use Rattle.rml_code.specs.declared.instructions.Instr.{Instr};
-ghost use Rattle.rml_implements.specs.Rules.{MoveRule, LoadRule, DropRule, GotoRule, FewerRule, SuccessRule, FailureRule, EnterRule, BodyRule, FieldRule, SameRule, CallRule, AnswerRule, FailRule, HandRule, SaveRule, GuardRule, WordRule, ConstRule, CallValueRule};
+ghost use Rattle.rml_implements.specs.Rules.{PackRule, MoveRule, LoadRule, DropRule, GotoRule, FewerRule, SuccessRule, FailureRule, EnterRule, BodyRule, FieldRule, SameRule, CallRule, AnswerRule, FailRule, HandRule, SaveRule, GuardRule, WordRule, ConstRule, CallValueRule};
 
 /// What holds whatever the lines are.
 pub fn instructions_alone()
     ensures moves { (vals : Vals) (calls : RelationActs) (rels registers : ℕ) (constants : ℕ → Option Value) (blocks : List (List Instr)) → MoveRule vals calls rels registers constants blocks }
     ensures loads { (vals : Vals) (calls : RelationActs) (rels registers : ℕ) (constants : ℕ → Option Value) (blocks : List (List Instr)) → LoadRule vals calls rels registers constants blocks }
+    ensures packs { (vals : Vals) (calls : RelationActs) (rels registers : ℕ) (constants : ℕ → Option Value) (blocks : List (List Instr)) → PackRule vals calls rels registers constants blocks }
     ensures drops { (vals : Vals) (calls : RelationActs) (rels registers : ℕ) (constants : ℕ → Option Value) (blocks : List (List Instr)) → DropRule vals calls rels registers constants blocks }
     ensures goes { (vals : Vals) (calls : RelationActs) (rels registers : ℕ) (constants : ℕ → Option Value) (blocks : List (List Instr)) → GotoRule vals calls rels registers constants blocks }
     ensures fewer { (vals : Vals) (calls : RelationActs) (rels registers : ℕ) (constants : ℕ → Option Value) (blocks : List (List Instr)) → FewerRule vals calls rels registers constants blocks }
