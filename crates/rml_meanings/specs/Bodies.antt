@@ -1,5 +1,5 @@
 -- What the definitions of a text say of type names, each by itself.
-use Rattle.std.specs.Prelude.{ℕ, Option, Some, None, ◌==◌, if◌then◌else◌, option_map}
+use Rattle.std.specs.Prelude.{ℕ, Option, Some, option_map}
 use Rattle.rml_types.specs.declared.scheme.Scheme.{Scheme}
 use Rattle.rml_types.specs.declared.tree.SchemeTree.{SchemeTree}
 use Rattle.rml_resolved.specs.declared.tables.TypeDef.{TypeDef}
