@@ -21,7 +21,7 @@ use Rattle.rml_code.specs.declared.instructions.Instr.{Instr}
 use Rattle.rml_code.specs.declared.instructions.Instr.TheVariants as instr
 use Rattle.rml_code.specs.declared.state.State.{State}
 use Rattle.rml_code.specs.Frames.{register, registers_of, loaded, success_frame, failure_frame, Success, success_at, Failure, failure_at, label_at}
-use Rattle.rml_code.specs.Standing.{value_in}
+use Rattle.rml_prims.specs.Standing.{value_in}
 use Rattle.rml_code.specs.Seen.{Seen, seen_in, asked, is_same, is_alike}
 use Rattle.rml_code.specs.Stretch as stretch
 use Rattle.rml_code.specs.Stretch.{Stretch, Full, Jump, Turn, Stop, goes, wrong, with_known}

@@ -14,7 +14,7 @@ use Rattle.rml_code.specs.declared.instructions.Halt.TheVariants as halt
 use Rattle.rml_code.specs.declared.instructions.Instr.TheVariants as instr
 use Rattle.rml_code.specs.declared.state.State.{State}
 use Rattle.rml_code.specs.Frames.{register, put, label_at}
-use Rattle.rml_code.specs.Standing.{value_in, lvars_in}
+use Rattle.rml_prims.specs.Standing.{value_in, lvars_in}
 use Rattle.rml_code.specs.Stretch as stretch
 use Rattle.rml_code.specs.Stretch.{Stretch, Turn, Stop, goes, with_known}
 use Rattle.rml_code.specs.Effects.{behind, effect, part_of, entry_in, otherwise, to_label}
