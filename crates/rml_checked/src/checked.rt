@@ -2,46 +2,18 @@
 
 ghost use Rattle.std.specs.Prelude.{◌≡◌, ◌↔◌, IfOk, IfSome, IsSome, IsTrue};
 ghost use Rattle.std.specs.List.{list_all};
-ghost use Rattle.rml_resolved.specs.Fits.{relation_fits, val_fits};
 ghost use Rattle.rml_resolved.specs.Size.{relation_is_small};
 ghost use Rattle.rml_resolved.specs.Facts.{IsMadeOf};
-ghost use Rattle.rml_resolved.specs.Typing.{type_def_fits, con_def_fits};
-ghost use Rattle.rml_resolved.specs.Whole.{names_hold, parts_begin, parts_fit, no_circles, variables_hold, sizes_hold, rules_and_main_hold, is_program};
+ghost use Rattle.rml_resolved.specs.Whole.{names_hold, no_circles, variables_hold, sizes_hold, rules_and_main_hold, is_program};
 
-use crate::beginning::{do_cons_begin, do_relations_begin, do_types_begin};
 use crate::binding::{are_bound_once, are_used_after};
 use crate::circles::{do_types_end, do_vals_end};
-use crate::fits::{is_relation, is_val};
 use crate::names::{are_byte_strings, do_names_differ};
 use crate::size::{are_light, are_rules_small, is_one_long};
-use crate::typing::{can_be_main, is_con_def, is_type_def};
 use rml_base::Memory;
-use rml_resolved::{ConDef, Counts, Parts, Program, RelDef, TypeDef, ValDef};
+use rml_fitting::{can_be_main, do_begin, do_fit};
+use rml_resolved::{Parts, Program, RelDef};
 use std::alloc::Global;
-
-fn are_types(names: usize, types: &[TypeDef]) -> bool
-    ensures { result ≡ list_all (type_def_fits names types.now) types.now }
-{
-    types.iter().all(|def| is_type_def(names, types, def))
-}
-
-fn are_cons(names: usize, types: &[TypeDef], cons: &[ConDef]) -> bool
-    ensures { result ≡ list_all (con_def_fits names types.now) cons.now }
-{
-    cons.iter().all(|def| is_con_def(names, types, def))
-}
-
-fn are_vals(counts: Counts, types: &[TypeDef], cons: &[ConDef], vals: &[ValDef]) -> bool
-    ensures { result ≡ list_all (val_fits counts types.now cons.now) vals.now }
-{
-    vals.iter().all(|val| is_val(counts, types, cons, val))
-}
-
-fn are_relations(counts: Counts, types: &[TypeDef], cons: &[ConDef], rels: &[RelDef]) -> bool
-    ensures { result ≡ list_all (relation_fits counts types.now cons.now) rels.now }
-{
-    rels.iter().all(|rel| is_relation(counts, types, cons, rel))
-}
 
 fn are_all_small(rels: &[RelDef]) -> bool
     ensures { result ≡ list_all relation_is_small rels.now }
@@ -57,30 +29,6 @@ fn do_names_hold(alloc: Global, parts: &Parts) -> Result<bool, Memory>
     } else {
         Ok(false)
     }
-}
-
-fn do_begin(parts: &Parts) -> bool
-    ensures { result ≡ parts_begin parts.now }
-{
-    do_types_begin(parts.names.as_slice(), parts.types.as_slice())
-        && do_cons_begin(parts.names.as_slice(), parts.cons.as_slice())
-        && do_relations_begin(parts.names.as_slice(), parts.rels.as_slice())
-}
-
-fn do_fit(parts: &Parts) -> bool
-    ensures { result ≡ parts_fit parts.now }
-{
-    let counts = Counts {
-        names: parts.names.len(),
-        vals: parts.vals.len(),
-        rels: parts.rels.len(),
-    };
-    let types = parts.types.as_slice();
-    let cons = parts.cons.as_slice();
-    are_types(counts.names, types)
-        && are_cons(counts.names, types, cons)
-        && are_vals(counts, types, cons, parts.vals.as_slice())
-        && are_relations(counts, types, cons, parts.rels.as_slice())
 }
 
 fn has_no_circles(alloc: Global, parts: &Parts) -> Result<bool, Memory>

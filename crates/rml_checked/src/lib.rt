@@ -2,14 +2,11 @@
 //! is for tables that are made by hand; who makes tables out of texts knows that they fit.
 #![tactic(auto)]
 
-mod beginning;
 mod binding;
 mod bound;
 mod checked;
 mod circles;
-mod fits;
 mod names;
 mod size;
-mod typing;
 
 pub use checked::program_of;

@@ -1,5 +1,5 @@
 use Rattle.std.proofs.Common.{length}
-use Rattle.rml_checked.proofs.beginning.+begin_relations.Given as goal
+use Rattle.rml_fitting.proofs.beginning.+begin_relations.Given as goal
 
 abbrev pub decreases-begin_relations : goal.decreases-begin_relations
 decreases-begin_relations l = length l.expected.now

@@ -3,7 +3,7 @@ use Rattle.std.proofs.lemmas.Bool.Decides.{nat_tests}
 use Rattle.rml_types.specs.declared.tree.SchemeTree.{SchemeTree}
 use Rattle.rml_resolved.specs.declared.expected.Word.{Word}
 use Rattle.rml_resolved.specs.Beginning.{are_words}
-use Rattle.rml_checked.proofs.beginning.+are_of_words.Goals as goal
+use Rattle.rml_fitting.proofs.beginning.+are_of_words.Goals as goal
 
 nothing_left : (ws : List Word) (ts : List SchemeTree) → 0 < length ws → length ts ≡ 0 → false ≡ are_words ws ts
 nothing_left [] ts more none = absurd (omega arith)
