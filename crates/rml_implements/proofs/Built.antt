@@ -14,8 +14,8 @@ use Rattle.rml_heap.proofs.Blocks.{looks-added}
 use Rattle.rml_trail.proofs.Futures.{future-same, future-added}
 use Rattle.rml_prims.specs.Binds.{Binds}
 use Rattle.rml_prims.proofs.Bindings.{binds-added}
+use Rattle.rml_prims.proofs.Callers.{lvars-added}
 use Rattle.rml_code.specs.declared.state.State.{State}
-use Rattle.rml_code.proofs.Callers.{lvars-added}
 use Rattle.rml_implements.specs.Given.{NoHeads, is_lvar}
 use Rattle.rml_implements.specs.World.{names_at, moment, Later, IsThere, Sound}
 use Rattle.rml_implements.proofs.Values.{stands-later}
