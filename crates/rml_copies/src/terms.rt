@@ -8,6 +8,7 @@ use rml_fol::{Expression, Literal, Tag, Vars};
 use sqlite_items::Items;
 use std::alloc::Global;
 
+/// A copy of a byte string.
 pub fn copy_bytes(alloc: Global, bytes: &Bytes) -> Result<Bytes, Memory>
     ensures { IfOk result (λ b. b ≡ bytes.now) }
 {
