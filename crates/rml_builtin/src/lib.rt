@@ -27,6 +27,3 @@ pub use made::cells_made;
 pub use row::{BuiltinRow, ROWS, Row, builtin, row_at};
 pub use run::{apply, apply_at};
 pub use scheme::scheme_of;
-
-#[cfg(test)]
-mod tests;

@@ -24,6 +24,3 @@ pub use parts::{Constructor, Name, Parts, Relation, Val};
 pub use statements::{Alternative, Block, Callee, Case, Stmt, Tag, Vars};
 pub use terms::{Expression, Literal, Pattern};
 pub use text::{print, print_parts};
-
-#[cfg(test)]
-mod tests;

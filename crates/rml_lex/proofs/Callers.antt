@@ -2,6 +2,7 @@
 pub use Rattle.rml_lex.proofs.Characters.{and-left, text-value, three-value, two-ways}
 pub use Rattle.rml_lex.proofs.Comments.{is-eq}
 pub use Rattle.rml_lex.proofs.Decided.{is-read}
+pub use Rattle.rml_lex.proofs.FewTokens.{few-tokens}
 pub use Rattle.rml_lex.proofs.Literals.{char-first, inside-text}
 pub use Rattle.rml_lex.proofs.Numerals.{digits-whole, signed-whole}
 pub use Rattle.rml_lex.proofs.SoFar.{longest-pos, reaches-more}

@@ -17,8 +17,6 @@ mod next;
 mod number;
 mod piece;
 mod places;
-#[cfg(test)]
-mod tests;
 mod tokens;
 mod words;
 

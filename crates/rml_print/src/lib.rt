@@ -17,8 +17,6 @@ mod printed;
 mod rules;
 mod seats;
 mod spelling;
-#[cfg(test)]
-mod tests;
 mod texts;
 mod types;
 

@@ -15,6 +15,3 @@ pub use graph::Graph;
 pub use labels::{Label, labels_of, tree_of};
 pub use scheme::{Scheme, are_below};
 pub use tree::{SchemeTree, copy_tree, copy_trees, forget, forget_all};
-
-#[cfg(test)]
-mod tests;

@@ -1,12 +1,9 @@
 //! Each built-in at an ordinary value, at its edges and where it has no answer.
 
-use crate::applied::{Applied, Store};
-use crate::built_ins::BuiltIns;
-use crate::made::cells_made;
-use crate::row::{ROWS, Row, builtin};
-use crate::run::{apply, apply_at};
-use crate::scheme::scheme_of;
 use rml_base::{Bytes, Memory};
+use rml_builtin::{
+    Applied, BuiltIns, ROWS, Row, Store, apply, apply_at, builtin, cells_made, scheme_of,
+};
 use rml_types::SchemeTree;
 use rml_value::{Value, Values, equal, list_of};
 use sqlite_items::Items;

@@ -1,10 +1,10 @@
 //! Bodies built by hand, and their text as written by hand.
 
-use crate::{
+use rml_base::{Bytes, Memory};
+use rml_fol::{
     Alternative, Block, Body, Callee, Case, Constructor, Expression, Literal, Name, Parts, Pattern,
     Relation, Stmt, Tag, Val, Vars, print_parts,
 };
-use rml_base::{Bytes, Memory};
 use sqlite_items::{Boxed, Items};
 use std::alloc::Global;
 use std::test::Fail;

@@ -1,7 +1,7 @@
 //! Texts, signatures and tokens as they are printed, on trees made by hand.
 
-use crate::{print_sig, print_tokens, print_tree};
 use rml_base::{Names, Place};
+use rml_print::{print_sig, print_tokens, print_tree};
 use rml_syntax::{
     ConBind, DataBind, Decl, Exp, Goal, Key, Lit, Long, Mark, Pattern, Rule, Sig, Spot, Text,
     Token, TypeExp, TypeHead, Uses,

@@ -1,7 +1,7 @@
 //! One table of texts with their tokens, and one of texts with their first fault.
 
-use super::{LexErr, LexKind, end_place, lex};
 use rml_base::{Memory, Names, Place};
+use rml_lex::{LexErr, LexKind, end_place, lex};
 use rml_syntax::{Key, Lit, Mark, Token};
 use std::alloc::Global;
 use std::test::Fail;

@@ -1,6 +1,6 @@
 use Rattle.std.proofs.Common.{◌≡◌, ◌<◌, length}
 use Rattle.rml_types.specs.Nodes.{HasNoFixed}
-use Rattle.rml_types.proofs.tests.relation_to_pairs.Given as goal
+use Rattle.rml_graphs.proofs.graphs.relation_to_pairs.Given as goal
 
 abbrev pub invariant-loop : goal.invariant-loop
 invariant-loop l = record {

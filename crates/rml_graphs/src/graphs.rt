@@ -3,9 +3,8 @@
 ghost use Rattle.std.specs.Prelude.{◌≡◌, ◌<◌, length, None, IfOk};
 ghost use Rattle.rml_types.specs.Nodes.{HasNoFixed};
 
-use crate::tree::forget;
-use crate::{Graph, Scheme, SchemeTree, TypeCon, UnifyErr, copy_tree};
 use rml_base::Memory;
+use rml_types::{Graph, Scheme, SchemeTree, TypeCon, UnifyErr, copy_tree, forget};
 use sqlite_items::Items;
 use std::alloc::Global;
 use std::test::Fail;
