@@ -11,8 +11,7 @@ use Rattle.rml_types.specs.declared.tree.SchemeTree.TheVariants as tree
 use Rattle.rml_types.specs.Finite.{built}
 use Rattle.rml_types.specs.Nodes.{Fits}
 use Rattle.rml_types.specs.Schemes.{inst, unit}
-use Rattle.rml_types.proofs.Callers.{fold-Named, fold-Rel, fold-Tuple, fold-Var, induct, inst-Named, inst-Rel, inst-Tuple, inst-Var}
-use Rattle.rml_types.proofs.Substitutions.{twice}
+use Rattle.rml_types.proofs.Callers.{fold-Named, fold-Rel, fold-Tuple, fold-Var, induct, inst-Named, inst-Rel, inst-Tuple, inst-Var, twice}
 use Rattle.rml_abbreviations.specs.Written.{Meanings, times, written, written_at, written_by}
 
 pub written-Var : (ms : Meanings) (k : ℕ) → written ms (tree.Var k) ≡ tree.Var k

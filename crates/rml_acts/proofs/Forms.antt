@@ -7,8 +7,7 @@ use Rattle.rml_heap.specs.HeapState.{unset_cell}
 use Rattle.rml_heap.specs.Form as form
 use Rattle.rml_heap.specs.Form.{Form, form_of, address, or_zero}
 use Rattle.rml_heap.specs.Reading.{cell_at, word_in, word_of}
-use Rattle.rml_heap.proofs.Forms.{HasForm, has-form, cell_of}
-use Rattle.rml_heap.proofs.Told.{block-address}
+use Rattle.rml_heap.proofs.Callers.{HasForm, block-address, cell_of, has-form}
 use Rattle.rml_code.specs.Effects.{parts_in, part_at, part_of, entry_in}
 use Rattle.rml_acts.proofs.Effects.{some-is, if-some}
 

@@ -8,9 +8,9 @@ use Rattle.std.proofs.lemmas.List.{get_or-drop, length-drop, drop-drop}
 use Rattle.rml_heap.specs.declared.cell.Cell.{Cell}
 use Rattle.rml_heap.specs.HeapState.{HeapState, bottom_of, IsInFrames, unset_cell}
 use Rattle.rml_heap.specs.Form.{address, or_zero}
-use Rattle.rml_heap.proofs.Outlines.{then-some}
+use Rattle.rml_heap.proofs.Callers.{then-some}
 use Rattle.rml_trail.specs.TrailState.{TrailState, Fits, unset_all}
-use Rattle.rml_trail.proofs.Trails.{fits-taken_back, fits-frames}
+use Rattle.rml_trail.proofs.Callers.{fits-frames, fits-taken_back}
 use Rattle.rml_code.specs.declared.instructions.Instr.TheVariants as instr
 use Rattle.rml_code.specs.declared.state.State.{State}
 use Rattle.rml_code.specs.Frames.{loaded, frames_from, Success, success_in, success_at, Failure, failure_in, failure_at, label_in, label_at}

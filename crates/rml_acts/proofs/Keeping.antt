@@ -9,9 +9,9 @@ use Rattle.rml_heap.specs.declared.cell.Cell.{Cell}
 use Rattle.rml_heap.specs.HeapState.{HeapState, cells_used, unset_cell}
 use Rattle.rml_heap.specs.Form.{form_of}
 use Rattle.rml_heap.specs.Reading.{word_of}
-use Rattle.rml_heap.proofs.Outlines.{then-some}
+use Rattle.rml_heap.proofs.Callers.{then-some}
 use Rattle.rml_trail.specs.TrailState.{Fits, unset_all}
-use Rattle.rml_trail.proofs.Trails.{fits-added, fits-frames, fits-undone, fits-taken_back}
+use Rattle.rml_trail.proofs.Callers.{fits-added, fits-frames, fits-taken_back, fits-undone}
 use Rattle.rml_prims.specs.Shapes.{cons_head}
 use Rattle.rml_code.specs.declared.instructions.Else.{Else}
 use Rattle.rml_code.specs.declared.instructions.Else.TheVariants as else

@@ -4,7 +4,7 @@ use Rattle.std.specs.Prelude.{slice_get}
 use Rattle.rml_base.specs.declared.memory.Memory.{Memory}
 use Rattle.rml_types.specs.Nodes.{Nodes}
 use Rattle.rml_types.specs.Runs.{Fresh, Grows, Keeps}
-use Rattle.rml_types.proofs.Growth.{fresh-none, grows-refl}
+use Rattle.rml_types.proofs.Callers.{fresh-none, grows-refl}
 use Rattle.rml_typed.specs.Typed.{Assigned}
 use Rattle.rml_equations.specs.declared.coding.Coding.TheVariants.{Plain}
 use Rattle.rml_equations.specs.declared.stop.Stop.{Stop}

@@ -10,7 +10,7 @@ use Rattle.rml_types.specs.Finite.{HasTypes}
 use Rattle.rml_types.specs.Nodes.{Nodes}
 use Rattle.rml_types.specs.Runs.{Fresh, Grows, Keeps}
 use Rattle.rml_types.specs.Schemes.{unit}
-use Rattle.rml_types.proofs.Growth.{below-kept, keeps-refl}
+use Rattle.rml_types.proofs.Callers.{below-kept, keeps-refl}
 use Rattle.rml_typed.specs.Typed.{Assigned}
 use Rattle.rml_equations.specs.declared.coding.Coding.TheVariants.{Plain}
 use Rattle.rml_equations.specs.Coding.{coded}
@@ -18,7 +18,7 @@ use Rattle.rml_equations.proofs.Callers.{Solution}
 use Rattle.rml_generator.specs.declared.parts.Side.TheVariants as side
 use Rattle.rml_generator.specs.Adds.{Watched, IsWithin}
 use Rattle.rml_generator.specs.Sides.{Gives}
-use Rattle.rml_generator.proofs.Turning.{take-next, take-past}
+use Rattle.rml_generator.proofs.Callers.{take-next, take-past}
 
 -- ---- types as they stand
 

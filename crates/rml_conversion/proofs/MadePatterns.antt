@@ -15,7 +15,7 @@ use Rattle.rml_cps.specs.declared.statements.Stmt.TheVariants as line
 use Rattle.rml_tocps.specs.declared.pass.numbers.Numbers.{Numbers}
 use Rattle.rml_tocps.specs.Matching.{MatchMade, PartMade, PartsMade, TestMade, place_at, match_front}
 use Rattle.rml_tocps.specs.Passing.{Rise}
-use Rattle.rml_tocps.proofs.Parts.{parts-none, parts-more, any-part-made, var-part-made, bind-part-made, fresh-part-made, any-made, var-made, bind-made, literal-made, tuple-made, con-made, nil-made, front-made, test-made}
+use Rattle.rml_tocps.proofs.Callers.{any-made, any-part-made, bind-made, bind-part-made, con-made, fresh-part-made, front-made, literal-made, nil-made, parts-more, parts-none, test-made, tuple-made, var-made, var-part-made}
 use Rattle.rml_conversion.specs.Hand.{Hand, Making, hand, one_variable, with_line, tested, all_but_last, last_of}
 use Rattle.rml_conversion.specs.Patterns.{PatternMaking, fresh_part, parts_made, items_made, reserved, list_made, tail_made, chain_made, pattern_at, pattern_made}
 

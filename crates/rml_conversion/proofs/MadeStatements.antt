@@ -22,12 +22,7 @@ use Rattle.rml_tocps.specs.declared.pass.numbers.Numbers.{Numbers}
 use Rattle.rml_tocps.specs.Blocks.{NewBlock, old_last, new_last}
 use Rattle.rml_tocps.specs.Cases.{new_fields}
 use Rattle.rml_tocps.specs.Passing.{made, alternative_ends, case_ends, IsUnder, all_go_on, Before, Passes, AllPass, CaseMade, CasesMade, Rise}
-use Rattle.rml_tocps.proofs.Blocks.{fail_carries}
-use Rattle.rml_tocps.proofs.Passing.{opens, two, line-made, under-more, before-none, before-more, before-passes, set-before, equal-before, built-in-before, call-before}
-use Rattle.rml_tocps.proofs.Patterns.{match-before}
-use Rattle.rml_tocps.proofs.Choices.{goes-front, free-less, not-before, both-as, fail-passes, give-passes, goto-passes, or-passes, all-one, all-more, ending-true}
-use Rattle.rml_tocps.proofs.Wholes.{cond-passes, body-passes}
-use Rattle.rml_tocps.proofs.Switches.{switch-passes}
+use Rattle.rml_tocps.proofs.Callers.{all-more, all-one, before-more, before-none, before-passes, body-passes, both-as, built-in-before, call-before, cond-passes, ending-true, equal-before, fail-passes, fail_carries, free-less, give-passes, goes-front, goto-passes, line-made, match-before, not-before, opens, or-passes, set-before, switch-passes, two, under-more}
 use Rattle.rml_conversion.specs.Hand.{Hand, Making, one_name, empty, only, or_else, all_but_last}
 use Rattle.rml_conversion.specs.Patterns.{pattern_made}
 use Rattle.rml_conversion.specs.Statements.{BlockMaking, CaseMaking, Cased, in_front, block_of, called, negated, or_of, cond_of, cased, fields_made, closed_case, all_cases, switch_rest, named, made_at, alternative_at, case_at, stmt_made, alternative_made, case_made}

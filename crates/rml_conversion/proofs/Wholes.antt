@@ -12,8 +12,7 @@ use Rattle.rml_fol.specs.Scoped.{relation_is_scoped}
 use Rattle.rml_cps.specs.declared.statements.Continuation.TheVariants as continuation
 use Rattle.rml_tocps.specs.Blocks.{RelationCarries, BothCarry, AreCarried}
 use Rattle.rml_tocps.specs.Passing.{Passes, made}
-use Rattle.rml_tocps.proofs.Passing.{two}
-use Rattle.rml_tocps.proofs.Wholes.{relation-carried}
+use Rattle.rml_tocps.proofs.Callers.{relation-carried, two}
 use Rattle.rml_conversion.specs.Tables.{body_made, relation_made, tables_made}
 use Rattle.rml_conversion.proofs.MadeStatements.{stmts-pass}
 

@@ -28,7 +28,7 @@ use Rattle.rml_cps.specs.Ends.{standing}
 use Rattle.rml_tocps.specs.declared.pass.numbers.Numbers.{Numbers}
 use Rattle.rml_tocps.specs.Matching.{place_at}
 use Rattle.rml_tocps.specs.Passing.{alternative_ends, case_ends as choice_ends}
-use Rattle.rml_tocps.proofs.Passing.{two}
+use Rattle.rml_tocps.proofs.Callers.{two}
 use Rattle.rml_conversion.specs.Hand.{Hand, Making, hand, one_variable, one_name, only, with_line, or_else, case_of, tested, all_but_last, last_of}
 use Rattle.rml_conversion.specs.Patterns.{PatternMaking, fresh_part, parts_made, items_made, reserved, list_made, chain_made, pattern_at, pattern_made}
 use Rattle.rml_conversion.specs.Statements.{BlockMaking, CaseMaking, in_front, block_of, or_of, cased, fields_made, closed_case, all_cases, made_at, alternative_at, case_at, stmt_made, alternative_made, case_made}

@@ -1,5 +1,5 @@
 -- The lemmas that proofs of other crates cite, each from the file where it is shown.
-pub use Rattle.rml_heap.proofs.Blocks.{added-block, added-stands, all-no_lvar, at-end, before-append, before-end, before-next, block-form, each-cons, look-shown, stands-more, stands-no_lvar}
+pub use Rattle.rml_heap.proofs.Blocks.{added-block, added-stands, all-no_lvar, at-end, before-append, before-end, before-next, block-form, each-cons, look-shown, stands-more, stands-no_lvar, looks-added}
 pub use Rattle.rml_heap.proofs.Comparisons.{BlockStands, IsMade, block-made, block-stands, lvar-stands}
 pub use Rattle.rml_heap.proofs.Forms.{HasForm, IsForm, cell_of, has-form}
 pub use Rattle.rml_heap.proofs.Kept.{agrees-content, agrees-more, agrees-names, behind-other, look-below, look-content, no-head}

@@ -9,12 +9,10 @@ use Rattle.rml_heap.specs.HeapState.{unset_cell}
 use Rattle.rml_heap.specs.Form as form
 use Rattle.rml_heap.specs.Form.{Form, form_of}
 use Rattle.rml_heap.specs.Reading.{cell_at, look, looks, form_before}
-use Rattle.rml_heap.proofs.Callers.{before-end, unset-form}
-use Rattle.rml_heap.proofs.Blocks.{looks-added}
-use Rattle.rml_trail.proofs.Futures.{future-same, future-added}
+use Rattle.rml_heap.proofs.Callers.{before-end, looks-added, unset-form}
+use Rattle.rml_trail.proofs.Callers.{future-added, future-same}
 use Rattle.rml_prims.specs.Binds.{Binds}
-use Rattle.rml_prims.proofs.Bindings.{binds-added}
-use Rattle.rml_prims.proofs.Callers.{lvars-added}
+use Rattle.rml_prims.proofs.Callers.{binds-added, lvars-added}
 use Rattle.rml_code.specs.declared.state.State.{State}
 use Rattle.rml_implements.specs.Given.{NoHeads, is_lvar}
 use Rattle.rml_implements.specs.World.{names_at, moment, Later, IsThere, Sound}

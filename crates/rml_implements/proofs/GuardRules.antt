@@ -23,7 +23,7 @@ use Rattle.rml_code.specs.Frames.{register, registers_of, loaded, failure_frame,
 use Rattle.rml_code.specs.Effects.{guards, retried, is_before}
 use Rattle.rml_code.specs.Remaining.{remains, at_block, weigh_if_room}
 use Rattle.rml_code.proofs.Callers.{by-Guard, by-Retry, failure-there}
-use Rattle.rml_trail.proofs.Futures.{future-same, future-restored}
+use Rattle.rml_trail.proofs.Callers.{future-restored, future-same}
 use Rattle.rml_trail.specs.TrailState.{unset_all}
 use Rattle.rml_implements.specs.Layout.{from_frame, Delayed, Layout, Retried}
 use Rattle.rml_implements.specs.World.{credit, names_at, set_in, moment, Later, StandsFor, Sound, FailureStands, Chain, Then, Within, Covers, IsDelayed, Meets}

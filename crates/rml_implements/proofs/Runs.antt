@@ -5,8 +5,7 @@ use Rattle.std.proofs.lemmas.Bool.{leb-true}
 use Rattle.std.proofs.lemmas.Option.{slice_get_within}
 use Rattle.rml_base.specs.Run.{Rest, Full, bare, step, weigh}
 use Rattle.rml_simulation.specs.Simulates.{Credit, nothing, Simulates}
-use Rattle.rml_simulation.proofs.Callers.{weaken, both_step, old_weigh, new_weigh, equal}
-use Rattle.rml_simulation.proofs.SimulatesMoves.{new_full}
+use Rattle.rml_simulation.proofs.Callers.{both_step, equal, new_full, new_weigh, old_weigh, weaken}
 use Rattle.rml_heap.specs.HeapState.{cells_used}
 use Rattle.rml_code.specs.declared.instructions.Instr.{Instr}
 use Rattle.rml_code.specs.declared.state.State.{State}

@@ -18,9 +18,8 @@ use Rattle.rml_cps.specs.Statements.{OnAnswer, RelationActs, Scope, with_known, 
 use Rattle.rml_heap.specs.declared.cell.Cell.{Cell}
 use Rattle.rml_heap.specs.Form as form
 use Rattle.rml_heap.specs.Form.{Form, form_of}
-use Rattle.rml_heap.proofs.Callers.{outline, IsPlain}
-use Rattle.rml_heap.proofs.Outlines.{outline_of}
-use Rattle.rml_prims.proofs.PlainCells.{plain_value, plain-stands, plain-form}
+use Rattle.rml_heap.proofs.Callers.{IsPlain, outline, outline_of}
+use Rattle.rml_prims.proofs.Callers.{plain-form, plain-stands, plain_value}
 use Rattle.rml_code.specs.declared.instructions.Instr.{Instr}
 use Rattle.rml_code.specs.declared.instructions.Instr.TheVariants as instr
 use Rattle.rml_code.specs.declared.state.State.{State}

@@ -11,7 +11,7 @@ use Rattle.rml_heap.specs.Form.{Form, form_of}
 use Rattle.rml_heap.specs.Reading.{cell_at, look, value_below}
 use Rattle.rml_heap.specs.Agrees.{Agrees}
 use Rattle.rml_heap.proofs.Callers.{agrees-names, below-agrees, below-higher, below-none, unset-form, look-is}
-use Rattle.rml_trail.proofs.Futures.{future-same, future-then, future-longer}
+use Rattle.rml_trail.proofs.Callers.{future-longer, future-same, future-then}
 use Rattle.rml_code.specs.declared.state.State.{State}
 use Rattle.rml_code.specs.Frames.{register}
 use Rattle.rml_code.specs.Effects.{parts_in, part_at, part_of}

@@ -11,7 +11,7 @@ use Rattle.rml_resolved.specs.declared.tables.TypeDef.{TypeDef}
 use Rattle.rml_typed.specs.Own.{Meanings, definition_in, meanings_to, own_meanings}
 use Rattle.rml_equations.specs.Rebuilding.{meanings_in}
 use Rattle.rml_abbreviations.specs.Written.{meaning_in, times, written, written_out}
-use Rattle.rml_abbreviations.proofs.WrittenTypes.{times-more, written-both, written-nothing}
+use Rattle.rml_abbreviations.proofs.Callers.{times-more, written-both, written-nothing}
 use Rattle.rml_meanings.specs.Bodies.{body_in}
 
 module _ (types : List TypeDef) (text : ℕ) where

@@ -1,5 +1,3 @@
-pub mod Chains
-pub mod Vals
 pub mod Valued
 pub mod Standing
 pub mod Depth

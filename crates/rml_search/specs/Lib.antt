@@ -1,5 +1,4 @@
 pub mod Matching
-pub mod Lists
 pub mod Context
 pub mod Values
 pub mod Search

@@ -18,4 +18,4 @@ pub use patterns::{match_each, matching};
 pub use run::{PlainRun, search};
 pub use state::State;
 pub use tables::{Tables, tables_of};
-pub use values::{find, val_of, value_of, values_of};
+pub use values::{val_of, value_of, values_of};

@@ -1,24 +1,23 @@
 //! The plain search. It owns what it holds, and copies it where a rule or a `not` may have to go back.
 
-ghost use Rattle.std.specs.Prelude.{◌≡◌, ◌≤◌, IfOk, slice_get, sum_by};
+ghost use Rattle.std.specs.Prelude.{◌≡◌, ◌≤◌, IfOk, sum_by};
 ghost use Rattle.rml_simulation.specs.Partial.{then_go};
-ghost use Rattle.rml_builtin.specs.declared.row.TheConstants.{ROWS};
 ghost use Rattle.rml_search.specs.Size.{goals_size, relations_size};
 ghost use Rattle.rml_search.specs.Given.{context_in, relations_in};
 ghost use Rattle.rml_search.specs.Whole.{rules_of};
-ghost use Rattle.rml_terms.specs.Calling.{made_at};
 ghost use Rattle.rml_search.specs.Search.{step_trace, weighted_step, goes_on, answer, taken as taken_by, from_match, from_built_in, relation_of, relation_called, call as call_of, going, going_all, called as called_by, try, by_rule as rule_gives, search_in};
 
 use crate::patterns::{match_each, matching};
 use crate::state::State;
 use crate::tables::Tables;
-use crate::values::{find, val_of, value_of, values_of};
+use crate::values::{val_of, value_of, values_of};
 use rml_base::Memory;
-use rml_builtin::{Answer, Applied, Store, apply_at, cells_made, row_at};
+use rml_builtin::{Answer, Applied, Store, apply_at};
+use rml_evaluation::{copy_env, copy_store, find, made_by, relation_named};
 use rml_resolved::{Callee, RExp, RGoal, RPat, RRule};
 use rml_simulation::{Partial, Trace, join, no_trace, put_before};
 use rml_terms::{Binding, Env, Matched};
-use rml_value::{Value, copy, equal};
+use rml_value::{Value, equal};
 use sqlite_items::{Items, at};
 use std::alloc::Global;
 
@@ -57,16 +56,6 @@ fn taken(
     let Answer { values, store } = given;
     let outcome = match_each(alloc, tables.names, patterns, values.as_slice(), env)?;
     Ok(matched(alloc, outcome, store, n))
-}
-
-/// The cells that the built-in of a number makes where these are its results.
-fn made_by(number: u16, values: &[Value]) -> Result<u64, Memory>
-    ensures { IfOk result (λ cells. cells ≡ made_at (slice_get ROWS number) values.now) }
-{
-    match row_at(number) {
-        None => Ok(0),
-        Some(row) => cells_made(row, values),
-    }
 }
 
 /// What a built-in gave, and its results against the patterns.
@@ -132,33 +121,6 @@ fn denied(alloc: Global, tables: &Tables, env: Env, store: Store, n: u32) -> Par
     Partial::Yes(state, weight_of_step(alloc, tables), n - 1)
 }
 
-fn copy_store(alloc: Global, store: &[Option<Value>]) -> Result<Store, Memory>
-    ensures { IfOk result (λ all. all ≡ store.now) }
-{
-    let mut all = Items::new(alloc);
-    for held in store {
-        match held {
-            None => all.push(None)?,
-            Some(v) => all.push(Some(copy(alloc, v)?))?,
-        }
-    }
-    Ok(all)
-}
-
-fn copy_env(alloc: Global, env: &[Binding]) -> Result<Env, Memory>
-    ensures { IfOk result (λ all. all ≡ env.now) }
-{
-    let mut all = Items::new(alloc);
-    for bound in env {
-        let value = copy(alloc, &bound.value)?;
-        all.push(Binding {
-            var: bound.var,
-            value,
-        })?;
-    }
-    Ok(all)
-}
-
 /// The relation that is called.
 fn relation(
     alloc: Global,
@@ -172,12 +134,12 @@ fn relation(
         Callee::Rel(r) => Ok(Some(r)),
         Callee::Built(_) => Ok(None),
         Callee::Var(x) => match find(x, env) {
-            Some(Value::Rel(r)) => Ok(Some(*r)),
-            _ => Ok(None),
+            Some(value) => Ok(relation_named(value)),
+            None => Ok(None),
         },
         Callee::Val(k) => match val_of(alloc, tables, k)? {
-            Some(Value::Rel(r)) => Ok(Some(r)),
-            _ => Ok(None),
+            Some(value) => Ok(relation_named(&value)),
+            None => Ok(None),
         },
     }
 }

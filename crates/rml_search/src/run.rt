@@ -1,20 +1,16 @@
 //! The search for `main`.
 
-ghost use Rattle.std.specs.Prelude.{◌≡◌, IfOk, map};
+ghost use Rattle.std.specs.Prelude.{◌≡◌, IfOk};
 ghost use Rattle.rml_base.specs.Run.{seen};
-ghost use Rattle.rml_simulation.specs.Partial.{trace_of};
-ghost use Rattle.rml_value.specs.declared.value.Value.TheVariants as value;
-ghost use Rattle.rml_terms.specs.Running.{integer_in, argument as argument_of};
 ghost use Rattle.rml_search.specs.Runs.{main_called, run_from, run_of};
 
 use crate::plain::search_from;
 use crate::tables::tables_of;
 use rml_base::{Bytes, Memory, Outcome};
 use rml_builtin::Answer;
+use rml_evaluation::{argument, integer, trace};
 use rml_resolved::Program;
-use rml_simulation::{Partial, Trace};
-use rml_value::{Value, Values, list_of};
-use sqlite_items::Items;
+use rml_simulation::Partial;
 use std::alloc::Global;
 
 /// What the plain search gives: the run of a program, after so many steps at most, as a caller sees it.
@@ -27,24 +23,6 @@ pub struct PlainRun {
     pub made: u64,
     /// The weight of its steps.
     pub weighed: u64,
-}
-
-fn texts(alloc: Global, args: &[Bytes]) -> Result<Values, Memory>
-    ensures { IfOk result (λ vs. vs ≡ map value.Text args.now) }
-{
-    let mut texts = Items::new(alloc);
-    for arg in args {
-        let bytes = Vec::from_slice(alloc, arg.as_slice())?;
-        texts.push(Value::Text(Bytes::of(bytes)))?;
-    }
-    Ok(texts)
-}
-
-fn argument(alloc: Global, args: &[Bytes]) -> Result<Value, Memory>
-    ensures { IfOk result (λ v. v ≡ argument_of args.now) }
-{
-    let texts = texts(alloc, args)?;
-    list_of(alloc, texts)
 }
 
 fn call_main(
@@ -60,15 +38,6 @@ fn call_main(
     search_from(alloc, &tables, program.main, &argument, n)
 }
 
-fn integer(values: &[Value]) -> Option<i64>
-    ensures { result ≡ integer_in values.now }
-{
-    match values {
-        [Value::Int(n)] => Some(*n),
-        _ => None,
-    }
-}
-
 fn outcome(part: &Partial<Answer>) -> Outcome
     ensures { result ≡ seen (run_from part.now).outcome }
 {
@@ -77,17 +46,6 @@ fn outcome(part: &Partial<Answer>) -> Outcome
         Partial::No(_, _) => Outcome::Failure,
         Partial::CutOff(_) => Outcome::Cut,
         Partial::GoneWrong(_) => Outcome::Failure,
-    }
-}
-
-fn trace(part: &Partial<Answer>) -> &Trace
-    ensures { result.now ≡ trace_of part.now }
-{
-    match part {
-        Partial::Yes(_, trace, _) => trace,
-        Partial::No(trace, _) => trace,
-        Partial::CutOff(trace) => trace,
-        Partial::GoneWrong(trace) => trace,
     }
 }
 

@@ -2,41 +2,19 @@
 
 ghost use Rattle.std.specs.Prelude.{◌≡◌, ◌≤◌, [], IfOk, map, sum_by};
 ghost use Rattle.rml_resolved.specs.Size.{val_size};
-ghost use Rattle.std.specs.Option.{option_copied};
 ghost use Rattle.rml_search.specs.Given.{context_in};
-ghost use Rattle.rml_terms.specs.Env.{look};
-ghost use Rattle.rml_terms.specs.Evaluating.{chain_of as chain_of_values, vals_to, all_of};
+ghost use Rattle.rml_terms.specs.Evaluating.{vals_to, all_of};
 ghost use Rattle.rml_search.specs.Values.{value_of_lit, meaning, meaning_of_val, value_of as value_of_exp, values_of as values_of_exps};
 
 use crate::tables::Tables;
 use rml_base::{Bytes, Memory};
+use rml_evaluation::{chain_of, found, text_value};
 use rml_resolved::{RExp, ValDef};
 use rml_syntax::Lit;
 use rml_terms::Binding;
-use rml_value::{Value, Values, copy, list_of, list_onto};
+use rml_value::{Value, Values, list_of};
 use sqlite_items::{Items, at};
 use std::alloc::Global;
-
-/// What a variable stands for.
-pub fn find(x: u32, env: &[Binding]) -> Option<&Value>
-    ensures { option_copied result ≡ look x env.now }
-{
-    for bound in env {
-        if x == bound.var {
-            return Some(&bound.value);
-        }
-    }
-    None
-}
-
-fn found(alloc: Global, x: u32, env: &[Binding]) -> Result<Option<Value>, Memory>
-    ensures { IfOk result (λ v. v ≡ look x env.now) }
-{
-    match find(x, env) {
-        Some(value) => Ok(Some(copy(alloc, value)?)),
-        None => Ok(None),
-    }
-}
 
 fn literal(alloc: Global, names: &[Bytes], lit: Lit) -> Result<Option<Value>, Memory>
     ensures { IfOk result (λ v. v ≡ value_of_lit names.now lit) }
@@ -45,27 +23,9 @@ fn literal(alloc: Global, names: &[Bytes], lit: Lit) -> Result<Option<Value>, Me
         Lit::Int(n) => Ok(Some(Value::Int(n))),
         Lit::Char(c) => Ok(Some(Value::Char(c))),
         Lit::Text(k) => match at(names, k as usize) {
-            Some(bytes) => {
-                let bytes = Vec::from_slice(alloc, bytes.as_slice())?;
-                Ok(Some(Value::Text(Bytes::of(bytes))))
-            }
+            Some(bytes) => Ok(Some(text_value(alloc, bytes.as_slice())?)),
             None => Ok(None),
         },
-    }
-}
-
-/// A chain of `::`, whose last item is the tail.
-#[tactic(auto, using(crate::proofs::Chains::chain_of_append))]
-fn chain_of(alloc: Global, values: Values) -> Result<Option<Value>, Memory>
-    ensures { IfOk result (λ v. v ≡ chain_of_values values) }
-{
-    let mut values = values;
-    match values.pop() {
-        None => Ok(None),
-        Some(tail) => {
-            let chain = list_onto(alloc, values, tail)?;
-            Ok(Some(chain))
-        }
     }
 }
 

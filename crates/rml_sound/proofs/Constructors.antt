@@ -9,8 +9,7 @@ use Rattle.rml_types.specs.declared.tree.SchemeTree.{SchemeTree, out-SchemeTree}
 use Rattle.rml_types.specs.declared.tree.SchemeTree.TheOpen.{SchemeTree-F}
 use Rattle.rml_types.specs.declared.tree.SchemeTree.TheVariants as tree
 use Rattle.rml_types.specs.Schemes.{below_at, every, inst, unit, vars_below}
-use Rattle.rml_types.proofs.Callers.{below-Named, below-Rel, below-Tuple, fold-Named, fold-Rel, fold-Tuple, induct, inst-Named, inst-Rel, inst-Tuple, inst-Var}
-use Rattle.rml_types.proofs.Substitutions.{named}
+use Rattle.rml_types.proofs.Callers.{below-Named, below-Rel, below-Tuple, fold-Named, fold-Rel, fold-Tuple, induct, inst-Named, inst-Rel, inst-Tuple, inst-Var, named}
 use Rattle.rml_resolved.specs.declared.limits.TheConstants.{CON_ARGUMENTS}
 use Rattle.rml_resolved.specs.declared.program.Program.{Program}
 use Rattle.rml_resolved.specs.declared.tables.ConDef.{ConDef}

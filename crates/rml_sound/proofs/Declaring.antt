@@ -15,8 +15,7 @@ use Rattle.rml_typed.specs.Typed.{Declared, ExpOf, ExpsOf, GoalsOf, PatternsOf, 
 use Rattle.rml_typed.specs.Parts.{RelType, RuleTyped, as_type, pieces, sides}
 use Rattle.rml_typed.specs.Units.{DeclaredTyped, InGroup, Used, ValTyped, alone, declared, declared_type, outside}
 use Rattle.rml_typed.specs.Checked.{IsTyped, SchemeOf}
-use Rattle.rml_typed.proofs.Callers.{rule-more, rule-typed}
-use Rattle.rml_typed.proofs.Using.{group-alone}
+use Rattle.rml_typed.proofs.Callers.{group-alone, rule-more, rule-typed}
 use Rattle.rml_sound.specs.Declaring.{AreDeclared, IsOf, with_rels, with_scheme}
 use Rattle.rml_sound.proofs.Canonical.{out-Rel}
 use Rattle.rml_sound.proofs.Used.{rule-has}

@@ -11,7 +11,7 @@ use Rattle.rml_value.specs.declared.value.Value.TheOpen.{Value-F}
 use Rattle.rml_value.specs.declared.value.Value.TheVariants as value
 use Rattle.rml_value.specs.declared.value.TheConstants.{NIL, CONS}
 use Rattle.rml_value.specs.Lists.{list_of, items_of}
-use Rattle.rml_value.proofs.ListItems.{items_of-cons, items_of-nil}
+use Rattle.rml_value.proofs.Callers.{items_of-cons, items_of-nil}
 use Rattle.rml_builtin.specs.declared.types.TheConstants.{LIST}
 use Rattle.rml_builtin.specs.Types.{a, list}
 use Rattle.rml_resolved.specs.declared.parts.Parts.{Parts}

@@ -11,8 +11,7 @@ use Rattle.rml_types.specs.declared.scheme.Scheme.{Scheme}
 use Rattle.rml_types.specs.declared.tree.SchemeTree.{SchemeTree}
 use Rattle.rml_types.specs.declared.tree.SchemeTree.TheVariants as tree
 use Rattle.rml_types.specs.Schemes.{inst, unit}
-use Rattle.rml_types.proofs.Callers.{fold-Named, fold-Rel, fold-Tuple, fold-Var, induct, inst-Named, inst-Rel, inst-Tuple, inst-Var}
-use Rattle.rml_types.proofs.Substitutions.{twice}
+use Rattle.rml_types.proofs.Callers.{fold-Named, fold-Rel, fold-Tuple, fold-Var, induct, inst-Named, inst-Rel, inst-Tuple, inst-Var, twice}
 use Rattle.rml_resolved.specs.declared.tables.TypeDef.{TypeDef}
 use Rattle.rml_resolved.specs.Circles.{Needs, has_no_circle, names_at, type_needs, types_in}
 use Rattle.rml_resolved.proofs.Callers.{by_rounds}

@@ -12,3 +12,4 @@ pub mod Patterns
 pub mod Choices
 pub mod Wholes
 pub mod Switches
+pub mod Callers

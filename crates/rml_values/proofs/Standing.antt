@@ -7,7 +7,7 @@ use Rattle.std.proofs.lemmas.List.Folds.{list_any-append}
 use Rattle.std.proofs.lemmas.List.Sums.{passes_at_first}
 use Rattle.std.proofs.lemmas.Option.{slice_get-get_or}
 use Rattle.rml_tables.specs.Words.{has, place_of, with_name}
-use Rattle.rml_tables.proofs.Places.{place-none, place-some}
+use Rattle.rml_tables.proofs.Callers.{place-none, place-some}
 use Rattle.rml_outlines.specs.Declarations.{Values}
 use Rattle.rml_outlines.specs.Lookups.{value_in}
 use Rattle.rml_outlines.specs.declared.entry.ValueEntry.{ValueEntry}

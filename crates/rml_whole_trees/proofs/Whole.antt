@@ -5,7 +5,7 @@ use Rattle.std.proofs.lemmas.List.Elements.{All-head, All-tail}
 use Rattle.rml_base.specs.Bytes.{AreBytes, IsBytes}
 use Rattle.rml_base.specs.declared.limits.TheConstants.{BYTES}
 use Rattle.rml_syntax.specs.declared.texts.Text.{Text}
-use Rattle.rml_lex.proofs.FewTokens.{few-tokens}
+use Rattle.rml_lex.proofs.Callers.{few-tokens}
 use Rattle.rml_stages.specs.Over.{AreTreesOver, IsTreeOver}
 use Rattle.rml_stages.specs.Reading.{AreRead, end_of}
 use Rattle.rml_stages.proofs.Callers.{all-behind}

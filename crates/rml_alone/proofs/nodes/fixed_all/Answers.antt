@@ -1,5 +1,5 @@
 use Rattle.std.proofs.Common.{arith}
-use Rattle.rml_types.proofs.Growth.{keeps-trans}
+use Rattle.rml_types.proofs.Callers.{keeps-trans}
 use Rattle.rml_alone.proofs.Starting.{fixed-all, fixed-next, fixed-none}
 use Rattle.rml_alone.proofs.nodes.fixed_all.Goals as goal
 

@@ -1,6 +1,6 @@
 use Rattle.std.proofs.Common.{◌∷◌, [], List, ℕ, sym, ap, arith, None, length, length-append, subst}
 use Rattle.rml_types.specs.Runs.{Fresh}
-use Rattle.rml_types.proofs.Growth.{fresh-more, fresh-none, grows-by, grows-refl, grows-trans, no-form}
+use Rattle.rml_types.proofs.Callers.{fresh-more, fresh-none, grows-by, grows-refl, grows-trans, no-form}
 use Rattle.rml_alone.proofs.nodes.fresh.Goals as goal
 
 pub loop-init : goal.loop-init

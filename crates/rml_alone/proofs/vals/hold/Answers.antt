@@ -6,7 +6,7 @@ use Rattle.rml_resolved.specs.declared.trees.RExp.{RExp}
 use Rattle.rml_generator.specs.declared.scope.Scope.{Scope}
 use Rattle.rml_generator.specs.Adds.{Alone, Bare, Told, no_node, one_node}
 use Rattle.rml_generator.specs.Scopes.{reads, uses, watched}
-use Rattle.rml_generator.proofs.Adding.{found, left-part, left-refuted}
+use Rattle.rml_generator.proofs.Callers.{found, left-part, left-refuted}
 use Rattle.rml_alone.proofs.Deciding.{adds-held, clashed, refutes-held}
 use Rattle.rml_alone.proofs.vals.hold.Goals as goal
 

@@ -1,5 +1,5 @@
-use Rattle.rml_base.proofs.LightLaws.{light_right}
-use Rattle.rml_tocps.proofs.Relations.{carried_is_light}
+use Rattle.rml_base.proofs.Callers.{light_right}
+use Rattle.rml_tocps.proofs.Callers.{carried_is_light}
 use Rattle.rml_conversion.specs.Tables.{tables_made}
 use Rattle.rml_conversion.proofs.MadeStatements.{stmts-pass}
 use Rattle.rml_conversion.proofs.Wholes.{relation-made, tables-carried}

@@ -3,8 +3,8 @@ use Rattle.rml_value.specs.declared.value.Value.{Value}
 use Rattle.rml_terms.specs.declared.state.Matched.TheVariants.{Yes}
 use Rattle.rml_terms.specs.Matching.{Matcher, match_list, match_chain}
 use Rattle.rml_search.specs.Matching.{matching}
-use Rattle.rml_search.specs.Lists.{head_of}
-use Rattle.rml_search.proofs.Chains.{list_turn, chain_turn, head_matched}
+use Rattle.rml_evaluation.specs.Lists.{head_of}
+use Rattle.rml_evaluation.proofs.Callers.{list_turn, chain_turn, head_matched}
 use Rattle.rml_search.proofs.patterns.+matching.Goals as goal
 
 pub match_list-loop-pattern-preserved : goal.match_list-loop-pattern-preserved

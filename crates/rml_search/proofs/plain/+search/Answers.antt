@@ -6,8 +6,9 @@ use Rattle.rml_search.specs.Size.{goals_size, relation_size, relations_size}
 use Rattle.rml_search.specs.Given.{context_in, relations_in}
 use Rattle.rml_search.specs.Whole.{rules_of}
 use Rattle.rml_search.specs.Search.{going, going_all, try}
-use Rattle.rml_search.proofs.Traces.{after_joined, goals_go_on, rules_go_on, relations_to_some}
-use Rattle.rml_search.proofs.Vals.{part-le}
+use Rattle.rml_evaluation.proofs.Callers.{after_joined}
+use Rattle.rml_search.proofs.Traces.{goals_go_on, rules_go_on, relations_to_some}
+use Rattle.rml_evaluation.proofs.Callers.{part-le}
 use Rattle.rml_search.proofs.plain.+search.Goals as goal
 
 pub by_relation-by_rules-requires : goal.by_relation-by_rules-requires

@@ -2,7 +2,7 @@ use Rattle.std.proofs.Common.{rules, arith, ◌≤◌, sum_by, sym, ◌∙◌}
 use Rattle.rml_resolved.specs.Size.{val_size}
 use Rattle.rml_terms.specs.Evaluating.{vals_to}
 use Rattle.rml_search.specs.Values.{meaning, meaning_of_val}
-use Rattle.rml_search.proofs.Vals.{vals_to-some, part-le, all-more}
+use Rattle.rml_evaluation.proofs.Callers.{vals_to-some, part-le, all-more}
 use Rattle.rml_search.proofs.values.+values.Goals as goal
 
 pub val-val_by-requires : goal.val-val_by-requires
@@ -11,7 +11,7 @@ val-val_by-requires t c =
     (search rules, small)
 
 pub val-returns-in-Some : goal.val-returns-in-Some
-val-returns-in-Some t c = rw (vals_to-some c.args.names.now c.args.vals.now c.args.depth c.args.k (omega arith), ← c.in-Some.ensures) c.val_by.ensures
+val-returns-in-Some t c = rw (vals_to-some (meaning_of_val c.args.names.now) c.args.vals.now c.args.depth c.args.k (omega arith), ← c.in-Some.ensures) c.val_by.ensures
 
 pub val-returns-in-None : goal.val-returns-in-None
 val-returns-in-None t c = search (rules, vals_to-some)

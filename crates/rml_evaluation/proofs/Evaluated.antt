@@ -3,17 +3,14 @@ use Rattle.std.proofs.Common.{◌≡◌, ℕ, zero, suc, ◌+◌, ◌-◌, ◌<�
 use Rattle.std.specs.Prelude.{slice_get, sum_by, option_map, option_and_then}
 use Rattle.std.proofs.lemmas.Option.{slice_get_cases, get_or_from_slice_get}
 use Rattle.std.proofs.lemmas.List.Sums.{get_or-le-sum_by}
-use Rattle.rml_resolved.specs.declared.tables.ValDef.{ValDef}
 use Rattle.rml_value.specs.declared.value.Value.{Value}
-use Rattle.rml_resolved.specs.declared.trees.RExp.{RExp}
 use Rattle.rml_terms.specs.Env.{Env}
-use Rattle.rml_terms.specs.Evaluating.{Evaluation, with_first, all_of, vals_to}
-use Rattle.rml_search.specs.Values.{meaning_of_val}
+use Rattle.rml_terms.specs.Evaluating.{Evaluation, Meanings, with_first, all_of, vals_to}
 
-pub vals_to-some : (names : List (List ℕ)) (vals : List ValDef) (depth k : ℕ) → 0 < depth
-    → vals_to (meaning_of_val names) vals depth k ≡ option_and_then (λ (def : ValDef). meaning_of_val names (vals_to (meaning_of_val names) vals (depth - 1)) def []) (slice_get vals k)
-vals_to-some names vals zero k h = absurd (omega arith)
-vals_to-some names vals (suc depth) k h = let e : suc depth - 1 ≡ depth = omega arith in rw e refl
+pub vals_to-some : {E : Type 0} (meaning : Meanings E) (vals : List E) (depth k : ℕ) → 0 < depth
+    → vals_to meaning vals depth k ≡ option_and_then (λ e. meaning (vals_to meaning vals (depth - 1)) e []) (slice_get vals k)
+vals_to-some meaning vals zero k h = absurd (omega arith)
+vals_to-some meaning vals (suc depth) k h = let e : suc depth - 1 ≡ depth = omega arith in rw e refl
 
 pub part-le : {X : Type 0} (f : X → ℕ) (xs : List X) (i : ℕ) (x : X) → slice_get xs i ≡ Some x → f x ≤ sum_by f xs
 part-le f xs i x e =
@@ -24,11 +21,11 @@ regroup done v None = refl
 regroup done v (Some rest) = ap Some (sym (append_assoc done (v ∷ []) rest))
 
 -- one expression more
-pub all-more : (f : RExp → Evaluation) (es : List RExp) (i : ℕ) (e : RExp) (env : Env) (v : Value) (done next : List Value) → i < length es → e ≡ get_or es i e → Some v ≡ f e env → next ≡ done ++ v ∷ []
+pub all-more : {E : Type 0} (f : E → Evaluation) (es : List E) (i : ℕ) (e : E) (env : Env) (v : Value) (done next : List Value) → i < length es → e ≡ get_or es i e → Some v ≡ f e env → next ≡ done ++ v ∷ []
     → option_map (λ rest. done ++ rest) (all_of (map f (drop i es)) env) ≡ option_map (λ rest. next ++ rest) (all_of (map f (drop (i + 1) es)) env)
-all-more f es i e env v done next inside is held more =
+all-more {E = E} f es i e env v done next inside is held more =
     let here : drop i es ≡ e ∷ drop (suc i) es = rw (drop-cons es i e, ← is) refl in
     rw (add-one, more)
-    (ap (λ (ds : List RExp). option_map (λ rest. done ++ rest) (all_of (map f ds) env)) here
+    (ap (λ (ds : List E). option_map (λ rest. done ++ rest) (all_of (map f ds) env)) here
     ∙ ap (λ (o : Option Value). option_map (λ rest. done ++ rest) (with_first o (all_of (map f (drop (suc i) es)) env))) (sym held)
     ∙ regroup done v (all_of (map f (drop (suc i) es)) env))

@@ -3,11 +3,11 @@ use Rattle.std.specs.Prelude.{◌==◌, if◌then◌else◌, [], ◌∷◌}
 use Rattle.rml_value.specs.declared.value.Value.{Value, out-Value}
 use Rattle.rml_value.specs.declared.value.Value.TheOpen.{Value-F}
 use Rattle.rml_value.specs.declared.value.TheConstants.{CONS}
-use Rattle.rml_search.specs.declared.state.Parts.{Parts}
-use Rattle.rml_search.specs.declared.state.Parts.TheVariants as parts
-use Rattle.rml_search.specs.declared.state.Parts.TheVariants.{HeadAndTail, Other}
+use Rattle.rml_evaluation.specs.declared.lists.ListParts.{ListParts}
+use Rattle.rml_evaluation.specs.declared.lists.ListParts.TheVariants as parts
+use Rattle.rml_evaluation.specs.declared.lists.ListParts.TheVariants.{HeadAndTail, Other}
 
-abbrev pub parts_at : Value-F Value → Parts
+abbrev pub parts_at : Value-F Value → ListParts
 parts_at (Value-F.Con d (x ∷ xs ∷ [])) = if CONS == d then HeadAndTail else Other
 parts_at (Value-F.Con d vs) = if CONS == d then parts.Wrong else Other
 parts_at _ = parts.Wrong

@@ -1,0 +1,4 @@
+pub mod Chains
+pub mod Evaluated
+pub mod Traces
+pub mod Callers
