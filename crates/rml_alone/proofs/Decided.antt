@@ -19,12 +19,12 @@ pub begun : (n g h i : Nodes) (vs : List ℕ) → n ≡ empty → Grows n g → 
 begun n g h i vs is grows fresh one two =
     begun-later h i vs two (begun-later g h vs one (begun-fresh g vs (subst (λ (m : Nodes). Grows m g) is grows) (subst (λ (m : Nodes). Fresh m g vs) is fresh)))
 
-slice-past : (l : List ℕ) (x : ℕ) → length l ≤ x → slice_get l x ≡ None
+pub slice-past : (l : List ℕ) (x : ℕ) → length l ≤ x → slice_get l x ≡ None
 slice-past [] x le = refl
 slice-past (n ∷ l) zero le = absurd (omega arith)
 slice-past (n ∷ l) (suc x) le = slice-past l x (omega arith)
 
-past-slice : (l : List ℕ) (x : ℕ) → slice_get l x ≡ None → length l ≤ x
+pub past-slice : (l : List ℕ) (x : ℕ) → slice_get l x ≡ None → length l ≤ x
 past-slice [] x e = omega arith
 past-slice (n ∷ l) zero e = absurd (cc)
 past-slice (n ∷ l) (suc x) e = (let le = past-slice l x e in omega arith)

@@ -13,7 +13,7 @@ use Rattle.rml_equations.specs.declared.stop.Stop.{Stop}
 use Rattle.rml_equations.specs.declared.stop.Stop.TheVariants as stop
 use Rattle.rml_equations.specs.Coding.{coded, decoded}
 use Rattle.rml_equations.specs.Stops.{stop_of}
-use Rattle.rml_equations.proofs.Callers.{Solution, decoded-coded}
+use Rattle.rml_equations.proofs.Callers.{Solution, decoded-coded, unfixed-same}
 use Rattle.rml_generator.specs.Adds.{Watched, Told, told_by, Tells, Adds, Refutes, Finds, Alone, Bare, Equates, no_node}
 use Rattle.rml_alone.specs.Answers.{IsAnswer}
 
@@ -45,6 +45,7 @@ module _ (c : Coding) (w : Watched) (g h : Nodes) (P : Told → SchemeTree → T
   pub adds-held : (i : Nodes) → Equates h i n wanted → Adds c w g i (Bare (λ told. P told t)) []
   adds-held i e = record {
     live = e.live;
+    unfixed = λ none. unfixed-same h i e.forms (a.unfixed none);
     count = (let l = a.count in let f = ap length e.forms in omega arith);
     within = All-nil (λ k. k < length i.forms);
     old = λ types has. a.old types ((e.types types).0 has).0;

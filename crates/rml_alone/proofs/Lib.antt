@@ -5,3 +5,4 @@ pub mod Texts
 pub mod Decided
 pub mod Verdicts
 pub mod Halving
+pub mod Callers

@@ -67,17 +67,17 @@ pub empty-types : (types : Solution) → HasTypes empty types
 empty-types types = record { forms = λ n f e. absurd (no-form f e); classes = λ m n e. ap types e }
 
 -- the node at a place
-there : (vs : List ℕ) (x n : ℕ) → slice_get vs x ≡ Some n → (x < length vs) × (get_or vs x 0 ≡ n)
+pub there : (vs : List ℕ) (x n : ℕ) → slice_get vs x ≡ Some n → (x < length vs) × (get_or vs x 0 ≡ n)
 there [] x n e = absurd (cc)
 there (v ∷ vs) zero n e = (omega arith, cc)
 there (v ∷ vs) (suc x) n e = let r = there vs x n e in (let l = r.0 in omega arith, r.1)
 
 -- so many types, from one on
-types-from : Assigned → ℕ → ℕ → List SchemeTree
+pub types-from : Assigned → ℕ → ℕ → List SchemeTree
 types-from G from zero = []
 types-from G from (suc n) = G from ∷ types-from G (suc from) n
 
-type-at : (G : Assigned) (from n k : ℕ) → k < n → get_or (types-from G from n) k unit ≡ G (from + k)
+pub type-at : (G : Assigned) (from n k : ℕ) → k < n → get_or (types-from G from n) k unit ≡ G (from + k)
 unfolding types-from
 type-at G from zero k lt = absurd (omega arith)
 type-at G from (suc n) zero lt = ap G (omega arith)
@@ -118,7 +118,7 @@ begun-within w g vs is none b = record {
 }
 
 -- nodes whose types are known give a side these types
-plain-all : (ts : List SchemeTree) → map (coded Plain) ts ≡ ts
+pub plain-all : (ts : List SchemeTree) → map (coded Plain) ts ≡ ts
 plain-all [] = refl
 plain-all (t ∷ ts) = ap (λ us. t ∷ us) (plain-all ts)
 

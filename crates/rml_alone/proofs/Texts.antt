@@ -24,10 +24,10 @@ use Rattle.rml_alone.specs.Texts.{ExpTypedAlone, FirstTypedAlone, IsOwn, IsTextO
 use Rattle.rml_alone.proofs.Variables.{exp-carried, rule-carried}
 
 -- types of a rule's own variables, where there are types of all
-own-types : ℕ → Assigned → Assigned
+pub own-types : ℕ → Assigned → Assigned
 own-types vars G x = if nat_lt x vars then G x else unit
 
-own-past : (vars : ℕ) (G : Assigned) → IsOwn vars (own-types vars G)
+pub own-past : (vars : ℕ) (G : Assigned) → IsOwn vars (own-types vars G)
 unfolding own-types
 own-past vars G x le = ap (λ (b : Bool). if b then G x else unit) (ltb-false' x vars le)
   where
@@ -41,7 +41,7 @@ own-past vars G x le = ap (λ (b : Bool). if b then G x else unit) (ltb-false' x
             ltb-true' : nat_lt x vars ≡ true → x < vars
             ltb-true' e = grind arith
 
-own-same : (vars : ℕ) (G : Assigned) (x : ℕ) → x < vars → G x ≡ own-types vars G x
+pub own-same : (vars : ℕ) (G : Assigned) (x : ℕ) → x < vars → G x ≡ own-types vars G x
 unfolding own-types
 own-same vars G x lt = sym (ap (λ (b : Bool). if b then G x else unit) (lt-ltb x vars lt))
 

@@ -12,7 +12,7 @@ use rml_types::{Graph, SchemeTree};
 use std::alloc::Global;
 
 /// So many new nodes without forms.
-pub fn fresh(alloc: Global, graph: &mut Graph, count: u32) -> Result<Vec<usize>, Memory>
+pub fn fresh(alloc: Global, graph: &mut Graph, count: usize) -> Result<Vec<usize>, Memory>
     ensures grows { Grows graph.old graph.new }
     ensures count { IfOk result (λ v. length v.items ≡ count) }
     ensures ok { IfOk result (λ v. Fresh graph.old graph.new v.items) }

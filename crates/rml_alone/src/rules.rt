@@ -32,7 +32,7 @@ fn can_be_typed(
     ensures { IfOk result (λ b. IsTrue b ↔ FirstTypedAlone text.now (held inputs.now outputs.now) rule.now count) }
 {
     let mut graph = Graph::new(alloc);
-    let variables = fresh(alloc, &mut graph, rule.vars)?;
+    let variables = fresh(alloc, &mut graph, rule.vars as usize)?;
     let taken = fixed_all(alloc, &mut graph, inputs)?;
     let given = fixed_all(alloc, &mut graph, outputs)?;
     let scope = Scope {

@@ -4,3 +4,4 @@ pub use Rattle.rml_code.proofs.ByInstruction.{by-Move, by-Word, by-Const, by-Fie
 pub use Rattle.rml_code.proofs.MoreTurns.{turns-count, turns-more}
 pub use Rattle.rml_code.proofs.Rising.{hops-enough}
 pub use Rattle.rml_code.proofs.Pushed.{frames-there, success-there, failure-there, success-label, failure-label}
+pub use Rattle.rml_code.proofs.KeptLimits.{limit-given, limit-stays, runs-within, runs-beyond}

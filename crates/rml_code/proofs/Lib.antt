@@ -3,6 +3,7 @@ pub mod ByInstruction
 pub mod MoreTurns
 pub mod Rising
 pub mod Pushed
+pub mod KeptLimits
 pub mod Tried
 pub mod Written
 pub mod Callers

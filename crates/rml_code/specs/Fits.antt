@@ -9,7 +9,7 @@ use Rattle.rml_value.specs.Range.{is_integer}
 use Rattle.rml_builtin.specs.declared.row.TheConstants.{ROWS}
 use Rattle.rml_builtin.specs.declared.row.Row.{Row}
 use Rattle.rml_builtin.specs.Table.{inputs_of, outputs_of}
-use Rattle.rml_code.specs.declared.limits.TheConstants.{CON_PARTS, PER_TOKEN, WEIGHT}
+use Rattle.rml_code.specs.declared.limits.TheConstants.{CON_PARTS, PER_TOKEN, WEIGHT, LENGTH}
 use Rattle.rml_code.specs.declared.instructions.Word.{Word}
 use Rattle.rml_code.specs.declared.instructions.Word.TheVariants as word
 use Rattle.rml_code.specs.declared.instructions.Else.{Else}
@@ -48,15 +48,19 @@ word_fits l (word.Con c) = true
 abbrev pub con_fits : ℕ → ℕ → Bool
 con_fits c n = nat_le 1 n && nat_lt n CON_PARTS && not ((c == CONS) && (n == 2))
 
+-- so many are counted in 32 bits, with all that a frame keeps besides
+abbrev pub is_counted : ℕ → Bool
+is_counted n = nat_lt n LENGTH
+
 -- constants share earlier ones
 abbrev pub part_fits : Listing → ℕ → Part → Bool
 part_fits l i (part.Word w) = word_fits l w
 part_fits l i (part.Constant j) = nat_lt j i
 
 abbrev pub constant_fits : Listing → ℕ → Constant → Bool
-constant_fits l i (constant.Text bytes) = are_bytes bytes
+constant_fits l i (constant.Text bytes) = are_bytes bytes && is_counted (length bytes)
 constant_fits l i (constant.Con c parts) = con_fits c (length parts) && list_all (part_fits l i) parts
-constant_fits l i (constant.Tuple parts) = list_all (part_fits l i) parts
+constant_fits l i (constant.Tuple parts) = list_all (part_fits l i) parts && is_counted (length parts)
 constant_fits l i (constant.Cons head tail) = part_fits l i head && part_fits l i tail
 
 abbrev pub constants_fit : Listing → Bool
@@ -126,10 +130,10 @@ instr_fits l at (instr.Word a w) = register_fits l a && word_fits l w
 instr_fits l at (instr.Const a i) = register_fits l a && nat_lt i (length l.constants)
 instr_fits l at (instr.Field a b i) = register_fits l a && register_fits l b && nat_le 1 i
 instr_fits l at (instr.Con a c rs) = register_fits l a && con_fits c (length rs) && registers_fit l rs
-instr_fits l at (instr.Tuple a rs) = register_fits l a && registers_fit l rs
+instr_fits l at (instr.Tuple a rs) = register_fits l a && registers_fit l rs && is_counted (length rs)
 instr_fits l at (instr.Cons a b c) = register_fits l a && register_fits l b && register_fits l c
-instr_fits l at (instr.Save b rs) = nat_lt b (length l.blocks) && registers_fit l rs
-instr_fits l at (instr.Guard b rs) = nat_lt b (length l.blocks) && registers_fit l rs
+instr_fits l at (instr.Save b rs) = nat_lt b (length l.blocks) && registers_fit l rs && is_counted (length rs)
+instr_fits l at (instr.Guard b rs) = nat_lt b (length l.blocks) && registers_fit l rs && is_counted (length rs)
 instr_fits l at (instr.Resume rs) = registers_fit l rs
 instr_fits l at (instr.Retry rs) = registers_fit l rs
 instr_fits l at instr.Drop = true

@@ -1,8 +1,9 @@
 -- Code with more turns: an end stays, and a text only grows.
-use Rattle.std.specs.Prelude.{ℕ, zero, suc, ◌+◌, ◌≡◌, List, Ok, Err}
+use Rattle.std.specs.Prelude.{ℕ, zero, suc, ◌+◌, ◌≡◌, min, List, Ok, Err}
 use Rattle.std.proofs.Common.{subst, arith}
 use Rattle.rml_base.specs.Monotone.{Later, IsMonotone}
 use Rattle.rml_base.specs.MonotoneLaws.{later_self, later_cut, later_prepend, later_make, later_weigh, longer_is_monotone}
+use Rattle.rml_heap.specs.declared.heap.TheConstants.{MOST_CELLS}
 use Rattle.rml_code.specs.declared.instructions.Instr.{Instr}
 use Rattle.rml_code.specs.declared.listing.Listing.{Listing}
 use Rattle.rml_code.specs.declared.state.State.{State}
@@ -30,4 +31,4 @@ begun_grows l (Ok s) j n = turns_grow l.blocks j n l.main s
 begun_grows l (Err full) j n = later_self (run_of (not_begun full))
 
 pub runs_are_monotone : (l : Listing) (args : List (List ℕ)) (limit : ℕ) → IsMonotone (runs_of l args limit)
-runs_are_monotone l args limit = longer_is_monotone (runs_of l args limit) (λ j. record { at = λ n. begun_grows l (opening l args limit) j n })
+runs_are_monotone l args limit = longer_is_monotone (runs_of l args limit) (λ j. record { at = λ n. begun_grows l (opening l args (min limit MOST_CELLS)) j n })

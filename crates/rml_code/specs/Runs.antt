@@ -1,9 +1,10 @@
 -- The runs of code: how a run ends or that its turns ran out, the text, the turns, and the greatest number of cells that were in use. What
 -- built-ins made and what was handed out besides those cells and the start cells is counted with them.
-use Rattle.std.specs.Prelude.{ℕ, List, [], Ok, Err}
+use Rattle.std.specs.Prelude.{ℕ, min, List, [], Ok, Err}
 use Rattle.rml_base.specs.Run as run
 use Rattle.rml_base.specs.Run.{InnerOutcome, Run, Runs}
 use Rattle.rml_heap.specs.declared.heap.Full.{Full}
+use Rattle.rml_heap.specs.declared.heap.TheConstants.{MOST_CELLS}
 use Rattle.rml_code.specs.declared.listing.Listing.{Listing}
 use Rattle.rml_code.specs.declared.state.State.{State}
 use Rattle.rml_code.specs.Stretch as stretch
@@ -62,5 +63,6 @@ inner Cut = run.Cut
 abbrev pub run_of : Ran → Run
 run_of r = record { outcome = inner r.outcome; text = r.text; made = r.made; weighed = r.weighed }
 
+-- there are no more cells than `MOST_CELLS`, so a run that may take more takes as many as it would within these
 abbrev pub runs_of : Listing → Runs
-runs_of l args limit n = run_of (machine l args limit n)
+runs_of l args limit n = run_of (machine l args (min limit MOST_CELLS) n)

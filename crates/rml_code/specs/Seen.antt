@@ -40,12 +40,17 @@ seen_as cells _ = None
 abbrev pub seen_in : List Cell → Cell → Option Seen
 seen_in cells c = seen_as cells (form_of c)
 
+-- a constant that a tag names is a text
+abbrev pub only_text : Option Seen → Option Seen
+only_text (Some (Text t)) = Some (Text t)
+only_text _ = None
+
 -- what a tag asks for; a text is a constant
 abbrev pub asked : State → Tag → Option Seen
 asked s (tag.Int i) = Some (Int i)
 asked s (tag.Char c) = Some (Char c)
 asked s (tag.Con constructor) = Some (Con constructor)
-asked s (tag.Text i) = seen_in s.heap.values (constant s i)
+asked s (tag.Text i) = only_text (seen_in s.heap.values (constant s i))
 
 -- the same, and of the same kind
 abbrev pub is_same : Seen → Option Seen → Bool

@@ -11,10 +11,10 @@ use crate::listing::Listing;
 #[derive(Drop)]
 pub struct Code {
     pub listing: Listing,
-    // constants have parts that are there, and share earlier ones alone
+    // constants have parts that are there, share earlier ones alone, and are counted in 32 bits
     pub ghost constants_fit: { IsTrue (constants_are_there listing) },
-    // registers, constants and blocks are there; a direct jump goes to a greater block; a block has an end, and nothing behind it;
-    // tags of a `switch` are different and of one kind
+    // registers, constants and blocks are there, and lists of registers are counted in 32 bits; a direct jump goes to a greater block;
+    // a block has an end, and nothing behind it; tags of a `switch` are different and of one kind
     pub ghost blocks_fit: { IsTrue (blocks_are_there listing) },
     // the first two blocks are the ends of a run
     pub ghost ends_fit: { IsTrue (ends_are_there listing) },

@@ -1,6 +1,6 @@
 //! What holds of the meaning of code. These functions do nothing: their contracts are the laws.
 
-ghost use Rattle.std.specs.Prelude.{◌≡◌, ◌&&◌, ◌<◌, ◌≤◌, ◌++◌, IsTrue, ℕ, suc, ◌+◌, ◌-◌, ◌^◌, ℤ, List, [], ◌∷◌, length, Some, None, option_and_then, slice_get, if◌then◌else◌};
+ghost use Rattle.std.specs.Prelude.{◌≡◌, ◌&&◌, ◌<◌, ◌≤◌, ◌++◌, IsTrue, ℕ, suc, ◌+◌, ◌-◌, ◌^◌, ℤ, List, [], ◌∷◌, length, Some, None, Ok, option_and_then, slice_get, if◌then◌else◌};
 ghost use Rattle.rml_base.specs.Run as run;
 ghost use Rattle.rml_base.specs.Run.{bare};
 ghost use Rattle.rml_base.specs.Monotone.{IsMonotone};
@@ -11,6 +11,7 @@ ghost use Rattle.rml_builtin.specs.declared.row.Row.{Row};
 ghost use Rattle.rml_builtin.specs.Applied.{Store};
 ghost use Rattle.rml_builtin.specs.BuiltIns.{apply};
 ghost use Rattle.rml_heap.specs.declared.cell.Cell.{Cell};
+ghost use Rattle.rml_heap.specs.declared.heap.TheConstants.{MOST_CELLS};
 ghost use Rattle.rml_heap.specs.Form.{form_of};
 ghost use Rattle.rml_heap.specs.HeapState.{HeapState};
 ghost use Rattle.rml_heap.specs.Reading.{word_of};
@@ -30,7 +31,8 @@ ghost use Rattle.rml_code.specs.Stretch.{then_turn};
 ghost use Rattle.rml_code.specs.Effects.{behind, otherwise, word_cell, con_head, tuple_head, with_block, part_of, saves, guards, resumed, retried, ends_with, switches, entry_in, effect};
 ghost use Rattle.rml_code.specs.Turns.{hops, turn, turns};
 ghost use Rattle.rml_code.specs.Fits.{constants_fit, blocks_fit, ends_fit, is_small, is_light};
-ghost use Rattle.rml_code.specs.Runs.{machine, runs_of};
+ghost use Rattle.rml_code.specs.Opening.{opening};
+ghost use Rattle.rml_code.specs.Runs.{machine, run_of, runs_of};
 ghost use Rattle.rml_code.specs.Sample.{sample, whole, cut_short, too_narrow, not_opened};
 ghost use Rattle.rml_code.specs.Remaining.{shown, remains, at_block, at_turn, comes_of, weigh_if_room};
 
@@ -118,6 +120,15 @@ pub fn frames_are_read()
         → heap.frames ≡ above ++ (success_frame label saved s ++ before) → length heap.frames ≤ heap.limit → label_at (heap.limit - length (success_frame label saved s ++ before)) heap ≡ Some label }
     ensures failure_labels { (heap : HeapState) (above saved before : List Cell) (label : ℕ) (s : State)
         → heap.frames ≡ above ++ (failure_frame label saved s ++ before) → length heap.frames ≤ heap.limit → label_at (heap.limit - length (failure_frame label saved s ++ before)) heap ≡ Some label }
+{}
+
+/// A run has no greater limit than `MOST_CELLS`: a greater one is read as this. The opening has the limit that it is given, and turns keep it,
+/// so no state of a run has a greater one, and each address that a frame keeps is read as it was written.
+pub fn limits_are_kept()
+    ensures within { (l : Listing) (args : List (List ℕ)) (limit n : ℕ) → limit ≤ MOST_CELLS → runs_of l args limit n ≡ run_of (machine l args limit n) }
+    ensures beyond { (l : Listing) (args : List (List ℕ)) (limit n : ℕ) → MOST_CELLS ≤ limit → runs_of l args limit n ≡ runs_of l args MOST_CELLS n }
+    ensures begun { (l : Listing) (args : List (List ℕ)) (limit : ℕ) (s : State) → opening l args limit ≡ Ok s → s.heap.limit ≡ limit }
+    ensures kept { (blocks : List (List Instr)) (n b : ℕ) (s : State) → (turns blocks n b s).state.heap.limit ≡ s.heap.limit }
 {}
 
 /// What a few runs give, of code that is written by hand.

@@ -8,3 +8,6 @@ pub const PER_TOKEN: u64 = 4_096;
 
 /// The tokens of all rules and the nodes of all vals are fewer.
 pub const WEIGHT: u64 = 134_217_728;
+
+/// The bytes of a text, the parts of a tuple, and the registers that a block or a frame is made of are fewer.
+pub const LENGTH: u32 = 2_147_483_640;

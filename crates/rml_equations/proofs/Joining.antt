@@ -13,7 +13,8 @@ use Rattle.rml_types.specs.declared.form.UnifyErr.TheVariants as refused
 use Rattle.rml_types.specs.declared.tree.SchemeTree.{SchemeTree}
 use Rattle.rml_types.specs.declared.tree.SchemeTree.TheVariants as tree
 use Rattle.rml_types.specs.Finite.{HasTypes, CannotEquateTypes, EquatesTypes, Adds as AddsNode, built, with_type}
-use Rattle.rml_types.specs.Nodes.{Nodes, form_of, with_node}
+use Rattle.rml_types.specs.Nodes.{HasNoFixed, Nodes, form_in, form_of, with_node}
+use Rattle.rml_types.proofs.Callers.{grows-by, no-form}
 use Rattle.rml_builtin.specs.declared.types.TheConstants.{LIST}
 use Rattle.rml_builtin.specs.Types.{list}
 use Rattle.rml_typed.specs.Typed.{AreChain, AreItems}
@@ -53,15 +54,38 @@ longer g h form is = ap (λ (n : Nodes). length n.forms) is ∙ length-append g.
 pub new-form : (g h : Nodes) (form : Option Form) → h ≡ with_node g form → form_of h (length g.forms) ≡ form
 new-form g h form is = ap (λ (n : Nodes). form_of n (length g.forms)) is ∙ get_or_at g.forms form [] None (length g.forms) refl
 
+-- ---- no variable came to stand fixed
+
+pub unfixed-with : (g h : Nodes) (form : Option Form) → ((f : Form) (k : ℕ) → form ≡ Some f → f.con ≡ con.Fixed k → ⊥) → h ≡ with_node g form → AddsNode g h form → HasNoFixed g → HasNoFixed h
+unfixed-with g h form other is adds = (grows-by g h form other is adds).unfixed
+
+-- nor where nodes were made equal
+pub unfixed-same : (g h : Nodes) → h.forms ≡ g.forms → HasNoFixed g → HasNoFixed h
+unfixed-same g h forms none n f k e q = none n f k (sym (ap (λ (fs : List (Option Form)). form_in fs n) forms) ∙ e) q
+
 -- ---- nodes whose types are made of others
+
+-- a constructor of types that is no variable
+abbrev pub IsNoVariable : TypeCon → Type 0
+IsNoVariable c = (k : ℕ) → c ≡ con.Fixed k → ⊥
+
+pub named-no-variable : (c : ℕ) → IsNoVariable (con.Named c)
+named-no-variable c k e = cc
+
+pub tuple-no-variable : IsNoVariable con.Tuple
+tuple-no-variable k e = cc
+
+pub rel-no-variable : (count : ℕ) → IsNoVariable (con.Rel count)
+rel-no-variable count k e = cc
 
 abbrev form-of : TypeCon → List ℕ → Form
 form-of k xs = record { con = k; args = xs }
 
-makes-app : (g h : Nodes) (k : TypeCon) (xs : List ℕ) → g.failed ≡ None → h ≡ with_node g (Some (record { con = k; args = xs })) → AddsNode g h (Some (record { con = k; args = xs }))
+makes-app : (g h : Nodes) (k : TypeCon) (xs : List ℕ) → IsNoVariable k → g.failed ≡ None → h ≡ with_node g (Some (record { con = k; args = xs })) → AddsNode g h (Some (record { con = k; args = xs }))
     → Makes g h (λ types. built k (map types xs)) (length g.forms)
-makes-app g h k xs live is adds = record {
+makes-app g h k xs other live is adds = record {
   live = ap (λ (n : Nodes). n.failed) is ∙ live;
+  unfixed = unfixed-with g h (Some (form-of k xs)) (λ f j s q. other j (ap (λ (x : Form). x.con) (some-of (form-of k xs) f s) ∙ q)) is adds;
   count = (let e = longer g h (Some (form-of k xs)) is in omega arith);
   within = (let e = longer g h (Some (form-of k xs)) is in omega arith);
   old = adds.restricts;
@@ -72,18 +96,21 @@ makes-app g h k xs live is adds = record {
   );
 }
   where
-    made : (types : Solution) (f : Form) → Some (form-of k xs) ≡ Some f → built k (map types xs) ≡ built f.con (map types f.args)
-    made types f s = let same : form-of k xs ≡ f = cc in ap (λ (x : Form). built x.con (map types x.args)) same
+    some-of : (f e : Form) → Some f ≡ Some e → f ≡ e
+    some-of f e s = cc
 
-pub makes-app-at : (g h : Nodes) (k : TypeCon) (xs : List ℕ) (r : Result ℕ Memory) → g.failed ≡ None → IfOk r (λ n. n ≡ length g.forms)
+    made : (types : Solution) (f : Form) → Some (form-of k xs) ≡ Some f → built k (map types xs) ≡ built f.con (map types f.args)
+    made types f s = ap (λ (x : Form). built x.con (map types x.args)) (some-of (form-of k xs) f s)
+
+pub makes-app-at : (g h : Nodes) (k : TypeCon) (xs : List ℕ) (r : Result ℕ Memory) → IsNoVariable k → g.failed ≡ None → IfOk r (λ n. n ≡ length g.forms)
     → OnOk r (h ≡ with_node g (Some (record { con = k; args = xs }))) → OnOk r (AddsNode g h (Some (record { con = k; args = xs }))) → IfOk r (Makes g h (λ types. built k (map types xs)))
-makes-app-at g h k xs (Err e) live node is adds = tt
-makes-app-at g h k xs (Ok n) live node is adds = subst (Makes g h (λ types. built k (map types xs))) (sym node) (makes-app g h k xs live is adds)
+makes-app-at g h k xs (Err e) other live node is adds = tt
+makes-app-at g h k xs (Ok n) other live node is adds = subst (Makes g h (λ types. built k (map types xs))) (sym node) (makes-app g h k xs other live is adds)
 
 pub makes-like : (g h : Nodes) (make other : Solution → SchemeTree) (r : Result ℕ Memory) → ((types : Solution) → make types ≡ other types) → IfOk r (Makes g h make) → IfOk r (Makes g h other)
 makes-like g h make other (Err e) same m = tt
 makes-like g h make other (Ok n) same m =
-    record { live = m.live; count = m.count; within = m.within; old = m.old; is = λ types has. m.is types has ∙ same types; extends = m.extends }
+    record { live = m.live; unfixed = m.unfixed; count = m.count; within = m.within; old = m.old; is = λ types has. m.is types has ∙ same types; extends = m.extends }
 
 drop-seam : {X : Type 0} (xs ys : List X) → drop (length xs) (xs ++ ys) ≡ ys
 drop-seam [] ys = refl
@@ -104,6 +131,7 @@ makes-packed : (g h i j : Nodes) (xs ys : List ℕ) (a b n : ℕ) → Makes g h 
     → Makes i j (λ types. built (con.Rel 1) (map types (a ∷ b ∷ []))) n → Makes g j (λ types. tree.Rel (tree.Tuple (map types xs) ∷ []) (tree.Tuple (map types ys) ∷ [])) n
 makes-packed g h i j xs ys a b n m k l = record {
   live = l.live;
+  unfixed = λ none. l.unfixed (k.unfixed (m.unfixed none));
   count = (let p = m.count in let q = k.count in let r = l.count in omega arith);
   within = l.within;
   old = λ types has. m.old types (k.old types (l.old types has));
@@ -229,6 +257,7 @@ module _ (c : Coding) (g h i : Nodes) (xs : List ℕ) (live : g.failed ≡ None)
   pub list-joined : (j : Nodes) (n : ℕ) → EquatesAll h i xs item → Makes i j (λ types. built (con.Named LIST) (map types (item ∷ []))) n → Joins c g j xs IsListOf n
   list-joined j n equates m = record {
     live = m.live;
+    unfixed = λ none. m.unfixed (unfixed-same h i equates.forms (unfixed-with g h None no-form is adds none));
     count = (let e = longer g h None is in let f = ap length equates.forms in let k = m.count in omega arith);
     within = m.within;
     old = λ types has. adds.restricts types ((equates.types types).0 (m.old types has)).0;
@@ -328,6 +357,7 @@ module _ (c : Coding) (g h : Nodes) (xs : List ℕ) (x : ℕ) where
     pub chain-joined : (i : Nodes) → i.failed ≡ None → i.forms ≡ h.forms → EquatesTypes h i x n → Joins c g i (xs ++ x ∷ []) IsChainOf n
     chain-joined i live forms equates = record {
       live = live;
+      unfixed = λ none. unfixed-same h i forms (l.unfixed none);
       count = (let e = ap length forms in let k = l.count in omega arith);
       within = (let e = ap length forms in let k = l.within in omega arith);
       old = λ types has. l.old types ((equates types).0 has).0;

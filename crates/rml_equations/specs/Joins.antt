@@ -3,7 +3,7 @@
 use Rattle.std.specs.Prelude.{◌≡◌, ℕ, ◌<◌, ◌≤◌, List, map, length, None, ◌↔◌, Result, Err, IfOk}
 use Rattle.rml_types.specs.declared.tree.SchemeTree.{SchemeTree}
 use Rattle.rml_types.specs.Finite.{HasTypes}
-use Rattle.rml_types.specs.Nodes.{Nodes}
+use Rattle.rml_types.specs.Nodes.{HasNoFixed, Nodes}
 use Rattle.rml_typed.specs.Typed.{AreItems}
 use Rattle.rml_equations.specs.declared.coding.Coding.{Coding}
 use Rattle.rml_equations.specs.declared.stop.Stop.{Stop}
@@ -15,9 +15,11 @@ pub record Extends (g h : Nodes) (types later : ℕ → SchemeTree) : Type 0 whe
   pub has : HasTypes h later
   pub same : (n : ℕ) → n < length g.forms → later n ≡ types n
 
--- The new graph is the old one with a node whose type is made of the types of nodes of the old graph.
+-- The new graph is the old one with a node whose type is made of the types of nodes of the old graph. No variable came to stand
+-- fixed in it.
 pub record Makes (g h : Nodes) (make : (ℕ → SchemeTree) → SchemeTree) (node : ℕ) : Type 0 where
   pub live : h.failed ≡ None
+  pub unfixed : HasNoFixed g → HasNoFixed h
   pub count : length g.forms ≤ length h.forms
   pub within : node < length h.forms
   pub old : (types : ℕ → SchemeTree) → HasTypes h types → HasTypes g types
@@ -33,9 +35,11 @@ pub record EquatesAll (g h : Nodes) (nodes : List ℕ) (one : ℕ) : Type 0 wher
 abbrev pub CannotEquateAll : Nodes → List ℕ → ℕ → Type 0
 CannotEquateAll g nodes one = (types : ℕ → SchemeTree) → HasTypes g types → AreItems (types one) (map types nodes) → ⊥
 
--- The new graph is the old one with equations for a node over some nodes of it, whose types are told by those of these.
+-- The new graph is the old one with equations for a node over some nodes of it, whose types are told by those of these. No variable
+-- came to stand fixed in it.
 pub record Joins (c : Coding) (g h : Nodes) (nodes : List ℕ) (Holds : List SchemeTree → SchemeTree → Type 0) (node : ℕ) : Type 0 where
   pub live : h.failed ≡ None
+  pub unfixed : HasNoFixed g → HasNoFixed h
   pub count : length g.forms ≤ length h.forms
   pub within : node < length h.forms
   pub old : (types : ℕ → SchemeTree) → HasTypes h types → HasTypes g types

@@ -11,7 +11,7 @@ use Rattle.rml_equations.specs.declared.stop.Stop.{Stop}
 use Rattle.rml_equations.specs.declared.stop.Stop.TheVariants as stop
 use Rattle.rml_equations.specs.Coding.{coded, decoded}
 use Rattle.rml_equations.specs.Joins.{Extends, Joins, Prevents, Links}
-use Rattle.rml_equations.proofs.Callers.{Solution, extends-on, map-agree}
+use Rattle.rml_equations.proofs.Callers.{Solution, extends-on, map-agree, unfixed-same}
 use Rattle.rml_generator.specs.Adds.{Watched, IsWithin, Told, told_by, Tells, Adds, Refutes, Finds, Alone, AndThen, Bare, Equates, Joined, one_node, no_node, each_node}
 
 abbrev pub Holding : Type 1
@@ -54,6 +54,7 @@ module _ (c : Coding) (w : Watched) where
   pub adds-nothing : (g : Nodes) → g.failed ≡ None → Adds c w g g (λ told ts. ts ≡ []) []
   adds-nothing g live = record {
     live = live;
+    unfixed = λ none. none;
     count = omega arith;
     within = All-nil (λ n. n < length g.forms);
     old = λ types has. has;
@@ -66,6 +67,7 @@ module _ (c : Coding) (w : Watched) where
       → ((told : Told) (ts : List SchemeTree) → Q told ts → P told ts) → Adds c w g h P xs → Adds c w g h Q xs
   adds-like g h P Q xs there back a = record {
     live = a.live;
+    unfixed = a.unfixed;
     count = a.count;
     within = a.within;
     old = a.old;
@@ -78,6 +80,7 @@ module _ (c : Coding) (w : Watched) where
       → Adds c w g h P xs → Adds c w h i (Alone Q) (x ∷ []) → Adds c w g i (AndThen P Q) (xs ++ x ∷ [])
   adds-next g h i P Q xs x inside a b = record {
     live = b.live;
+    unfixed = λ none. b.unfixed (a.unfixed none);
     count = (let p = a.count in let q = b.count in omega arith);
     within = All-push (λ n. n < length i.forms) xs x (All-weaker (λ n. n < length h.forms) (λ n. n < length i.forms) (λ n lt. (let q = b.count in omega arith)) xs a.within)
         (All-head (λ n. n < length i.forms) x [] b.within);
@@ -117,6 +120,7 @@ module _ (c : Coding) (w : Watched) where
       → Adds c w g h P xs → Joins c h i xs Q n → Adds c w g i (Alone (Joined P Q)) (n ∷ [])
   adds-joined g h i P Q xs n a j = record {
     live = j.live;
+    unfixed = λ none. j.unfixed (a.unfixed none);
     count = (let p = a.count in let q = j.count in omega arith);
     within = alone-within (length i.forms) n j.within;
     old = λ types has. a.old types (j.old types has);
@@ -225,6 +229,7 @@ module _ (c : Coding) (w : Watched) where
       → Adds c w g j (Alone (λ told t. P told t × Q told t)) (m ∷ [])
   adds-same g h i j P Q m n inside a b e = record {
     live = e.live;
+    unfixed = λ none. unfixed-same i j e.forms (b.unfixed (a.unfixed none));
     count = (let p = a.count in let q = b.count in let l = ap length e.forms in omega arith);
     within = alone-within (length j.forms) m (let l = ap length e.forms in let q = b.count in let less = All-head (λ k. k < length h.forms) m [] a.within in omega arith);
     old = λ types has. a.old types (b.old types ((e.types types).0 has).0);
@@ -260,6 +265,7 @@ module _ (c : Coding) (w : Watched) where
   pub adds-untold : (g h : Nodes) (P : Told → SchemeTree → Type 0) (n : ℕ) → Adds c w g h (Alone P) (n ∷ []) → Adds c w g h (Bare (λ told. (t : SchemeTree) × P told t)) []
   adds-untold g h P n a = record {
     live = a.live;
+    unfixed = a.unfixed;
     count = a.count;
     within = All-nil (λ k. k < length h.forms);
     old = a.old;

@@ -53,6 +53,7 @@ module _ (c : Coding) (w : Watched) where
       → Makes i j (λ types. relation_as c (map types xs) (map types ys)) n → Adds c w g j (Alone (RelationOf P Q)) (n ∷ [])
   adds-relation g h i j P Q xs ys n inside a b m = record {
     live = m.live;
+    unfixed = λ none. m.unfixed (b.unfixed (a.unfixed none));
     count = (let p = a.count in let q = b.count in let l = m.count in omega arith);
     within = alone-within (length j.forms) n m.within;
     old = λ types has. a.old types (b.old types (m.old types has));
@@ -101,6 +102,7 @@ module _ (c : Coding) (w : Watched) where
   pub adds-both : (g h i : Nodes) (P Q : Told → Type 0) → IsWithin c w g → Adds c w g h (Bare P) [] → Adds c w h i (Bare Q) [] → Adds c w g i (Bare (Both P Q)) []
   adds-both g h i P Q inside a b = record {
     live = b.live;
+    unfixed = λ none. b.unfixed (a.unfixed none);
     count = (let p = a.count in let q = b.count in omega arith);
     within = All-nil (λ k. k < length i.forms);
     old = λ types has. a.old types (b.old types has);

@@ -14,7 +14,7 @@ use Rattle.rml_equations.specs.declared.stop.Stop.{Stop}
 use Rattle.rml_equations.specs.declared.stop.Stop.TheVariants as stop
 use Rattle.rml_equations.specs.Coding.{coded, decoded, parts_at}
 use Rattle.rml_equations.specs.Joins.{Extends, Makes}
-use Rattle.rml_equations.proofs.Callers.{Solution, coded-Tuple, decoded-Tuple, extends-on, map-agree, map-through}
+use Rattle.rml_equations.proofs.Callers.{Solution, coded-Tuple, decoded-Tuple, extends-on, map-agree, map-through, unfixed-same}
 use Rattle.rml_generator.specs.declared.parts.Side.{Side}
 use Rattle.rml_generator.specs.declared.parts.Side.TheVariants as side
 use Rattle.rml_generator.specs.Adds.{Watched, IsWithin, Told, told_by, Adds, Finds, Bare, Equates, Equals, no_node, each_node}
@@ -115,6 +115,7 @@ module _ (g h : Nodes) (xs ys : List ℕ) where
 pub each-ties : (c : Coding) (g h : Nodes) (xs ys : List ℕ) (held : Side) (nodes : Vec ℕ Global) → held ≡ side.Each nodes → nodes.items ≡ ys → EquatesEach g h xs ys → Ties c g h xs held
 each-ties c g h xs ys held nodes is same e = subst (Ties c g h xs) (sym is) (record {
   live = e.live;
+  unfixed = unfixed-same g h e.forms;
   count = (let f = ap length e.forms in omega arith);
   old = λ types has. ((e.types types).0 has).0;
   sound = λ types has. (
@@ -145,6 +146,7 @@ module _ (c : Coding) (g h i : Nodes) (xs : List ℕ) (m n : ℕ) (inside : All 
   whole-ties : Equates h i m n → Ties c g i xs (side.Whole n)
   whole-ties e = record {
     live = e.live;
+    unfixed = λ none. unfixed-same h i e.forms (made.unfixed none);
     count = (let f = ap length e.forms in let q = made.count in omega arith);
     old = λ types has. made.old types ((e.types types).0 has).0;
     sound = λ types has. (
@@ -181,6 +183,7 @@ module _ (c : Coding) (w : Watched) (g h i : Nodes) (P : Holding) (xs : List ℕ
   adds-held : Ties c h i xs held → Adds c w g i (Bare HeldTo) []
   adds-held ties = record {
     live = ties.live;
+    unfixed = λ none. ties.unfixed (a.unfixed none);
     count = (let p = a.count in let q = ties.count in omega arith);
     within = All-nil (λ n. n < length i.forms);
     old = λ types has. a.old types (ties.old types has);

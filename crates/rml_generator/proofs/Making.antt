@@ -11,6 +11,7 @@ use Rattle.rml_types.specs.declared.tree.SchemeTree.{SchemeTree}
 use Rattle.rml_types.specs.declared.tree.SchemeTree.TheVariants as tree
 use Rattle.rml_types.specs.Finite.{CannotEquateTypes, EquatesTypes, Adds as AddsNode, with_type}
 use Rattle.rml_types.specs.Nodes.{Nodes, with_node}
+use Rattle.rml_types.proofs.Callers.{no-form}
 use Rattle.rml_builtin.specs.declared.types.TheConstants.{INT, CHAR, STRING}
 use Rattle.rml_typed.specs.Typed.{type_of_literal}
 use Rattle.rml_equations.specs.declared.coding.Coding.{Coding}
@@ -19,7 +20,7 @@ use Rattle.rml_equations.specs.declared.stop.Stop.TheVariants as stop
 use Rattle.rml_equations.specs.Coding.{coded, decoded}
 use Rattle.rml_equations.specs.Joins.{Joins, Links, Makes, Prevents}
 use Rattle.rml_equations.specs.Stops.{stop_of}
-use Rattle.rml_equations.proofs.Callers.{Solution, IsChainOf, coded-Named, coded-Tuple, decoded-Named, decoded-Tuple, links-no-memory, links-stop, longer, map-agree, map-through, with-at, with-other}
+use Rattle.rml_equations.proofs.Callers.{Solution, IsChainOf, coded-Named, coded-Tuple, decoded-Named, decoded-Tuple, links-no-memory, links-stop, longer, map-agree, map-through, unfixed-with, with-at, with-other}
 use Rattle.rml_generator.specs.Adds.{Equals}
 use Rattle.rml_generator.proofs.Adding.{Left, err-is, ok-untyped}
 
@@ -40,6 +41,7 @@ none-form f e = cc
 pub joins-any : (c : Coding) (g h : Nodes) (n : ℕ) → g.failed ≡ None → n ≡ length g.forms → h ≡ with_node g None → AddsNode g h None → Joins c g h [] (λ ts t. Unit {0}) n
 joins-any c g h n live at is adds = record {
   live = ap (λ (m : Nodes). m.failed) is ∙ live;
+  unfixed = unfixed-with g h None no-form is adds;
   count = (let l = longer g h None is in omega arith);
   within = (let l = longer g h None is in omega arith);
   old = adds.restricts;
@@ -56,6 +58,7 @@ pub joins-of : (c : Coding) (g h : Nodes) (xs : List ℕ) (n : ℕ) (make : List
     → ((us : List SchemeTree) → coded c (make us) ≡ make (map (coded c) us)) → Makes g h (λ types. make (map types xs)) n → Joins c g h xs (λ ts t. t ≡ make ts) n
 joins-of c g h xs n make inside out into m = record {
   live = m.live;
+  unfixed = m.unfixed;
   count = m.count;
   within = m.within;
   old = m.old;

@@ -25,6 +25,7 @@ not-same a b differ = on (a == b) refl
 adds-own : (c : Coding) (w : Watched) (g : Nodes) (r n : ℕ) → g.failed ≡ None → IsWithin c w g → w.node r ≡ Some n → Adds c w g g (Alone (λ told t. t ≡ as_type (told.group r))) (n ∷ [])
 adds-own c w g r n live inside at = record {
   live = live;
+  unfixed = λ none. none;
   count = omega arith;
   within = alone-within (length g.forms) n (inside.group r n at);
   old = λ types has. has;

@@ -7,6 +7,7 @@ use Rattle.rml_types.specs.Finite.{HasTypes, CannotEquateTypes, Adds as AddsNode
 use Rattle.rml_types.specs.Instances.{IsInstance}
 use Rattle.rml_types.specs.Nodes.{Nodes, with_node}
 use Rattle.rml_types.specs.Runs.{Grows, HasInstances}
+use Rattle.rml_types.proofs.Callers.{no-form}
 use Rattle.rml_builtin.specs.declared.row.Row.{Row}
 use Rattle.rml_builtin.specs.Table.{type_of, vars_of}
 use Rattle.rml_typed.specs.Typed.{HasInstance}
@@ -14,7 +15,7 @@ use Rattle.rml_equations.specs.declared.coding.Coding.{Coding}
 use Rattle.rml_equations.specs.declared.stop.Stop.{Stop}
 use Rattle.rml_equations.specs.Coding.{coded, decoded, relation_as}
 use Rattle.rml_equations.specs.Joins.{Extends, Joins, Links, Makes, Prevents}
-use Rattle.rml_equations.proofs.Callers.{Solution, coded-Rel, coded-Tuple, coded-inst, decoded-Rel, decoded-Tuple, decoded-inst, extends-on, longer, map-agree, map-through, with-at, with-other}
+use Rattle.rml_equations.proofs.Callers.{Solution, coded-Rel, coded-Tuple, coded-inst, decoded-Rel, decoded-Tuple, decoded-inst, extends-on, longer, map-agree, map-through, unfixed-same, unfixed-with, with-at, with-other}
 use Rattle.rml_generator.specs.Adds.{Watched, IsWithin, Told, told_at, Tells, Adds, Alone, Equates}
 use Rattle.rml_generator.proofs.Adding.{alone-within}
 use Rattle.rml_generator.proofs.Making.{none-form}
@@ -26,6 +27,7 @@ module _ (c : Coding) (w : Watched) (g : Nodes) (x : ℕ) where
   pub adds-variable : (n : ℕ) → g.failed ≡ None → IsWithin c w g → slice_get w.vars x ≡ Some n → Adds c w g g (Alone (λ told t. t ≡ told.vars x)) (n ∷ [])
   adds-variable n live inside at = record {
     live = live;
+    unfixed = λ none. none;
     count = omega arith;
     within = alone-within (length g.forms) n (inside.vars x n at);
     old = λ types has. has;
@@ -43,6 +45,7 @@ module _ (c : Coding) (w : Watched) (g : Nodes) (x : ℕ) where
   pub adds-unknown : (h : Nodes) (n : ℕ) → slice_get w.vars x ≡ None → Makes g h (λ types. tree.Tuple []) n → Adds c w g h (Alone (λ told t. t ≡ told.vars x)) (n ∷ [])
   adds-unknown h n at m = record {
     live = m.live;
+    unfixed = m.unfixed;
     count = m.count;
     within = alone-within (length h.forms) n m.within;
     old = m.old;
@@ -63,6 +66,7 @@ module _ (c : Coding) (w : Watched) (g : Nodes) (x : ℕ) where
 pub joins-instance : (c : Coding) (g h : Nodes) (n : ℕ) (body : SchemeTree) → g.failed ≡ None → Grows g h → HasInstances g h n (coded c body) → Joins c g h [] (λ ts t. IsInstance body t) n
 joins-instance c g h n body live grows has = record {
   live = grows.kept.failed ∙ live;
+  unfixed = grows.unfixed;
   count = grows.kept.count;
   within = has.within;
   old = grows.kept.restricts;
@@ -131,6 +135,7 @@ module _ (c : Coding) (g h i : Nodes) (parts : List ℕ) (taken : ℕ) (Q : Sche
     pub made-joined : (k : Nodes) → Equates j k taken s → Joins c g k parts IsMadeBy whole
     made-joined k equates = record {
       live = equates.live;
+      unfixed = λ none. unfixed-same j k equates.forms (instance.unfixed (m.unfixed (unfixed-with g h None no-form is adds none)));
       count = (let e = longer g h None is in let f = ap length equates.forms in let p = m.count in let q = instance.count in omega arith);
       within = (let e = longer g h None is in let f = ap length equates.forms in let p = m.count in let q = instance.count in omega arith);
       old = λ types has. adds.restricts types (m.old types (instance.old types ((equates.types types).0 has).0));

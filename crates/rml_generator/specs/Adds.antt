@@ -5,7 +5,7 @@ use Rattle.std.specs.Prelude.{◌≡◌, ℕ, ◌<◌, ◌≤◌, slice_get, Lis
 use Rattle.std.specs.declared.alloc.Global.{Global}
 use Rattle.rml_types.specs.declared.tree.SchemeTree.{SchemeTree, out-SchemeTree}
 use Rattle.rml_types.specs.Finite.{HasTypes, CannotEquateTypes, EquatesTypes}
-use Rattle.rml_types.specs.Nodes.{Nodes}
+use Rattle.rml_types.specs.Nodes.{HasNoFixed, Nodes}
 use Rattle.rml_types.specs.Schemes.{unit}
 use Rattle.rml_typed.specs.Typed.{Assigned}
 use Rattle.rml_typed.specs.Parts.{as_type, sides}
@@ -55,9 +55,10 @@ pub record Tells (c : Coding) (w : Watched) (types : ℕ → SchemeTree) (told :
 
 -- The new graph is the old one with equations for nodes of some types: whatever finite types it has, those are finite types of the
 -- old graph and Holds of the types of the nodes, and wherever the old graph has finite types and Holds of some types, it has finite
--- types that extend those and give the nodes these.
+-- types that extend those and give the nodes these. No variable came to stand fixed in it.
 pub record Adds (c : Coding) (w : Watched) (g h : Nodes) (Holds : Told → List SchemeTree → Type 0) (nodes : List ℕ) : Type 0 where
   pub live : h.failed ≡ None
+  pub unfixed : HasNoFixed g → HasNoFixed h
   pub count : length g.forms ≤ length h.forms
   pub within : All (λ n. n < length h.forms) nodes
   pub old : (types : ℕ → SchemeTree) → HasTypes h types → HasTypes g types

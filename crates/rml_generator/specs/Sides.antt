@@ -3,7 +3,7 @@ use Rattle.std.specs.Prelude.{◌≡◌, ◌↔◌, ℕ, ◌≤◌, List, [], �
 use Rattle.rml_types.specs.declared.tree.SchemeTree.{SchemeTree, out-SchemeTree}
 use Rattle.rml_types.specs.declared.tree.SchemeTree.TheVariants as tree
 use Rattle.rml_types.specs.Finite.{HasTypes}
-use Rattle.rml_types.specs.Nodes.{Nodes}
+use Rattle.rml_types.specs.Nodes.{HasNoFixed, Nodes}
 use Rattle.rml_equations.specs.declared.coding.Coding.{Coding}
 use Rattle.rml_equations.specs.declared.stop.Stop.{Stop}
 use Rattle.rml_equations.specs.declared.stop.Stop.TheVariants as stop
@@ -35,6 +35,7 @@ pub record Gives (c : Coding) (w : Watched) (g : Nodes) (held : Side) (k : Told 
 -- the new graph is the old one with equations by which nodes have the types of a side
 pub record Ties (c : Coding) (g h : Nodes) (nodes : List ℕ) (held : Side) : Type 0 where
   pub live : h.failed ≡ None
+  pub unfixed : HasNoFixed g → HasNoFixed h
   pub count : length g.forms ≤ length h.forms
   pub old : (types : ℕ → SchemeTree) → HasTypes h types → HasTypes g types
   pub sound : (types : ℕ → SchemeTree) → HasTypes h types → given_by c types held ≡ map (λ n. decoded c (types n)) nodes
