@@ -1,0 +1,5 @@
+pub mod SameTypes
+pub mod CircleGraph
+pub mod Turns
+pub mod KnownTables
+pub mod MainTypes
