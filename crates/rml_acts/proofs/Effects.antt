@@ -1,11 +1,11 @@
 -- What it tells of an instruction that it is right.
-use Rattle.std.specs.Prelude.{ℕ, ◌≡◌, ◌+◌, ◌<◌, ◌≤◌, Bool, true, false, ◌&&◌, nat_le, if◌then◌else◌, List, Option, Some, None}
-use Rattle.std.proofs.Common.{inl, inr, refl, ap, sym, ◌∙◌, arith}
-use Rattle.std.proofs.lemmas.Bool.{le-leb, leb-true}
+use Rattle.std.specs.Prelude.{ℕ, ◌≡◌, ◌+◌, Bool, true, false, ◌&&◌, if◌then◌else◌, Option, Some, None}
+use Rattle.std.proofs.Common.{inl, inr, refl, ap}
+use Rattle.std.proofs.lemmas.Bool.{le-leb}
 use Rattle.std.proofs.lemmas.Bool.Decides.{leb_tells}
 use Rattle.rml_heap.specs.HeapState.{cells_used, HasRoom}
 use Rattle.rml_code.specs.declared.state.State.{State}
-use Rattle.rml_code.specs.Stretch.{Stretch, Full, Stop, goes, with_known}
+use Rattle.rml_code.specs.Stretch.{Stretch, Full, Stop, goes, wrong, with_known}
 use Rattle.rml_code.specs.Effects.{if_room}
 use Rattle.rml_acts.specs.Did.{IsRight}
 
@@ -19,6 +19,11 @@ known-right (Some x) go s right = (x, refl)
 
 pub known-is : {A : Type 0} (o : Option A) (go : A → Stretch) (s : State) (x : A) → o ≡ Some x → with_known o go s ≡ go x
 known-is o go s x is = ap (λ o. with_known o go s) is
+
+-- a test that was passed
+pub test-right : (b : Bool) (a : Stretch) (s : State) → IsRight (if b then a else wrong s) → (if b then a else wrong s) ≡ a
+test-right true a s right = refl
+test-right false a s right = absurd (right refl)
 
 -- cells fit, or not
 pub room-fits : (n : ℕ) (s : State) (a : Stretch) → HasRoom s.heap n → if_room n s a ≡ a

@@ -1,5 +1,5 @@
 -- What the cells are that an instruction takes.
-use Rattle.std.specs.Prelude.{ℕ, suc, ◌≡◌, ◌≢◌, ◌+◌, ◌<◌, ◌≤◌, ◌^◌, ◌&&◌, nat_le, if◌then◌else◌, ℤ, pos, List, length, Option, Some, None, slice_get, slice_index_or}
+use Rattle.std.specs.Prelude.{ℕ, suc, ◌≡◌, ◌≢◌, ◌+◌, ◌<◌, ◌^◌, ◌&&◌, nat_le, ℤ, List, length, Some, slice_get, slice_index_or}
 use Rattle.std.proofs.Common.{refl, ap, sym, ◌∙◌, subst, arith}
 use Rattle.std.proofs.lemmas.Option.{slice_get_within, get_or_from_slice_get}
 use Rattle.rml_heap.specs.declared.cell.Cell.{Cell}
@@ -7,7 +7,7 @@ use Rattle.rml_heap.specs.HeapState.{unset_cell}
 use Rattle.rml_heap.specs.Form as form
 use Rattle.rml_heap.specs.Form.{Form, form_of, address, or_zero}
 use Rattle.rml_heap.specs.Reading.{cell_at, word_in, word_of}
-use Rattle.rml_heap.proofs.Callers.{HasForm, block-address, cell_of, has-form}
+use Rattle.rml_heap.proofs.Callers.{block-address, cell_of, has-form}
 use Rattle.rml_code.specs.Effects.{parts_in, part_at, part_of, entry_in}
 use Rattle.rml_acts.proofs.Effects.{some-is, if-some}
 

@@ -1,12 +1,12 @@
 -- What an instruction keeps that prints nothing.
-use Rattle.std.specs.Prelude.{ℕ, suc, ◌≡◌, ◌+◌, ◌<◌, ◌≤◌, Bool, true, false, ◌&&◌, nat_le, nat_lt, if◌then◌else◌, ℤ, List, [], ◌∷◌, ◌++◌, length, take, drop, Option, Some, None, slice_set}
+use Rattle.std.specs.Prelude.{ℕ, ◌≡◌, ◌+◌, ◌<◌, Bool, true, false, ◌&&◌, nat_le, nat_lt, if◌then◌else◌, List, [], ◌∷◌, length, take, drop, Option, Some, None, slice_set}
 use Rattle.std.specs.Option.{option_and_then}
 use Rattle.std.specs.List.{AllByRecursion, list_all}
-use Rattle.std.proofs.Common.{refl, ap, sym, ◌∙◌, subst, arith, length-set}
+use Rattle.std.proofs.Common.{refl, ap, ◌∙◌, subst, length-set}
 use Rattle.rml_value.specs.declared.value.Value.{Value}
 use Rattle.rml_value.specs.Same.{same}
 use Rattle.rml_heap.specs.declared.cell.Cell.{Cell}
-use Rattle.rml_heap.specs.HeapState.{HeapState, cells_used, unset_cell}
+use Rattle.rml_heap.specs.HeapState.{HeapState, cells_used}
 use Rattle.rml_heap.specs.Form.{form_of}
 use Rattle.rml_heap.specs.Reading.{word_of}
 use Rattle.rml_heap.proofs.Callers.{then-some}

@@ -4,3 +4,7 @@ pub mod SameValues
 pub mod Forms
 pub mod Looked
 pub mod Keeping
+pub mod Sights
+pub mod Texts
+pub mod Switched
+pub mod FromCode

@@ -1,6 +1,6 @@
 -- What it takes to look at values.
-use Rattle.std.specs.Prelude.{ℕ, suc, ◌≡◌, ◌≢◌, ◌+◌, ◌<◌, ◌≤◌, ◌^◌, ◌↔◌, Bool, true, false, IsTrue, if◌then◌else◌, ℤ, List, length, Option, Some, None, slice_index_or, slice_set}
-use Rattle.std.proofs.Common.{refl, ap, sym, ◌∙◌, subst, arith}
+use Rattle.std.specs.Prelude.{ℕ, suc, ◌≡◌, ◌+◌, ◌<◌, ◌^◌, ◌↔◌, Bool, true, false, IsTrue, if◌then◌else◌, ℤ, List, length, Option, Some, None, slice_index_or, slice_set}
+use Rattle.std.proofs.Common.{refl, ap, sym, ◌∙◌, arith}
 use Rattle.rml_value.specs.declared.value.Value.{Value}
 use Rattle.rml_value.specs.Same.{same}
 use Rattle.rml_heap.specs.declared.cell.Cell.{Cell}

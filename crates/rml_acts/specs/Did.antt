@@ -1,5 +1,5 @@
 -- What an instruction did, as its effect says it.
-use Rattle.std.specs.Prelude.{ℕ, ◌≡◌, ◌≢◌}
+use Rattle.std.specs.Prelude.{◌≢◌}
 use Rattle.rml_code.specs.Stretch as stretch
 use Rattle.rml_code.specs.Stretch.{Next, Stretch}
 use Rattle.rml_acts.specs.declared.step.End.{End}

@@ -1,16 +1,18 @@
 -- What an instruction may rest on, by its numbers alone: registers and constants are there, and what it counts is counted in 32 bits.
-use Rattle.std.specs.Prelude.{ℕ, ◌<◌, ◌≤◌, ◌^◌, List, length, slice_index_or}
+use Rattle.std.specs.Prelude.{ℕ, ◌<◌, ◌^◌, List, length, slice_index_or}
 use Rattle.std.specs.List.{AllByRecursion}
 use Rattle.rml_heap.specs.declared.cell.Cell.{Cell}
 use Rattle.rml_heap.specs.HeapState.{free_cell}
-use Rattle.rml_code.specs.declared.limits.TheConstants.{CON_PARTS}
+use Rattle.rml_code.specs.declared.limits.TheConstants.{CON_PARTS, LENGTH}
 use Rattle.rml_code.specs.declared.instructions.Word.{Word}
 use Rattle.rml_code.specs.declared.instructions.Word.TheVariants as word
+use Rattle.rml_code.specs.declared.instructions.Tag.{Tag}
+use Rattle.rml_code.specs.declared.instructions.Tag.TheVariants as tag
+use Rattle.rml_code.specs.declared.instructions.Case.{Case}
 use Rattle.rml_code.specs.declared.instructions.Halt.{Halt}
 use Rattle.rml_code.specs.declared.instructions.Halt.TheVariants as halt
 use Rattle.rml_code.specs.declared.instructions.Instr.{Instr}
 use Rattle.rml_code.specs.declared.instructions.Instr.TheVariants as instr
-use Rattle.rml_acts.specs.declared.limits.TheConstants.{LENGTH}
 
 -- the cell of a register
 abbrev pub held : List Cell → ℕ → Cell
@@ -31,7 +33,15 @@ abbrev pub IsFineHalt : ℕ → Halt → Type 0
 IsFineHalt n halt.Integer = 0 < n
 IsFineHalt n _ = Unit {0}
 
--- where there are so many registers, and so many constants; built-ins and `switch` are not here
+-- the constant that a tag names is there
+abbrev pub IsFineTag : ℕ → Tag → Type 0
+IsFineTag m (tag.Text i) = i < m
+IsFineTag m _ = Unit {0}
+
+abbrev pub AreFineCases : ℕ → List Case → Type 0
+AreFineCases m cases = AllByRecursion (λ (k : Case). IsFineTag m k.tag) cases
+
+-- where there are so many registers, and so many constants; built-ins are not here
 abbrev pub IsFine : ℕ → ℕ → Instr → Type 0
 IsFine n m (instr.Move a b) = (a < n) × (b < n)
 IsFine n m (instr.Word a w) = (a < n) × IsFineWord w
@@ -48,5 +58,5 @@ IsFine n m (instr.Equal a b e) = (a < n) × (b < n)
 IsFine n m (instr.CallRegister a) = a < n
 IsFine n m (instr.Halt h) = IsFineHalt n h
 IsFine n m (instr.Builtin k rs ys e) = ⊥
-IsFine n m (instr.Switch a cases e) = ⊥
+IsFine n m (instr.Switch a cases e) = (a < n) × AreFineCases m cases
 IsFine n m _ = Unit {0}

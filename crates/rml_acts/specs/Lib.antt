@@ -1,3 +1,4 @@
 pub mod Fine
 pub mod Did
 pub mod Kept
+pub mod Sees

@@ -11,10 +11,11 @@ use crate::leaving::{call, halt};
 use crate::making::{CONS_HEAD, build, con_head, tuple_head};
 use crate::registers::{copy, put_constant, put_word};
 use crate::step::Step;
+use crate::switch::choose;
 use crate::values::{compare, take_part};
 use rml_code::{Instr, State};
 
-/// One instruction that is no built-in and no `switch`. It takes no memory, and tests nothing that its effect rules out.
+/// One instruction that is no built-in. It takes no memory, and tests nothing that its effect rules out.
 pub fn act(instr: &Instr, state: &mut State) -> Step
     requires fits { Fits state.old.trail state.old.heap }
     requires fine { IsFine (length state.old.registers) (length state.old.constants) instr.now }
@@ -67,6 +68,6 @@ pub fn act(instr: &Instr, state: &mut State) -> Step
         Instr::Fail => enter(state, state.failure),
         Instr::Halt(end) => halt(state, *end),
         Instr::Builtin(_, _, _, _) => Step::Behind,
-        Instr::Switch(_, _, _) => Step::Behind,
+        Instr::Switch(a, cases, otherwise) => choose(state, *a, cases.as_slice(), *otherwise),
     }
 }

@@ -3,7 +3,7 @@
 ghost use Rattle.std.specs.Prelude.{◌≡◌, ◌<◌, ◌≤◌, ◌+◌, ◌-◌, length, drop, slice_index_or};
 ghost use Rattle.rml_heap.specs.HeapState.{bottom_of, IsInFrames, unset_cell};
 ghost use Rattle.rml_trail.specs.TrailState.{Fits};
-ghost use Rattle.rml_acts.specs.declared.limits.TheConstants.{LENGTH};
+ghost use Rattle.rml_code.specs.declared.limits.TheConstants.{LENGTH};
 ghost use Rattle.rml_code.specs.declared.instructions.Instr.TheVariants as instr;
 ghost use Rattle.rml_code.specs.Frames.{loaded, number_cell};
 ghost use Rattle.rml_code.specs.Effects.{behind, effect, to_label};

@@ -1,10 +1,20 @@
 //! What holds of the effects. These functions do nothing: their contracts are the laws.
 
+ghost use Rattle.std.specs.Prelude.{ℕ, IsTrue, length};
 ghost use Rattle.rml_trail.specs.TrailState.{Fits};
 ghost use Rattle.rml_code.specs.declared.instructions.Instr.{Instr};
+ghost use Rattle.rml_code.specs.declared.listing.Listing.{Listing};
 ghost use Rattle.rml_code.specs.declared.state.State.{State};
 ghost use Rattle.rml_code.specs.Effects.{effect};
+ghost use Rattle.rml_code.specs.Fits.{instr_fits, is_small, is_light};
+ghost use Rattle.rml_acts.specs.Fine.{IsFine};
 ghost use Rattle.rml_acts.specs.Kept.{IsQuiet, IsPlain};
+
+/// What code keeps of its instructions is what they may rest on: an instruction of a `Code` that is no built-in is fine where there are as
+/// many registers and constants as its listing has.
+pub fn code_is_fine()
+    ensures { (l : Listing) (at : ℕ) (i : Instr) → IsTrue (is_small l) → IsTrue (is_light l) → IsTrue (instr_fits l at i) → IsQuiet i → IsFine l.registers (length l.constants) i }
+{}
 
 /// An instruction that is no built-in prints nothing and makes no turn; the trail still fits the heap, and there are as many registers, the
 /// same constants, and the same limit. The cells that it counts are those at its end.

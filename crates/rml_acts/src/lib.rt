@@ -1,15 +1,15 @@
-//! The instructions of flat code on a state, but built-ins and `switch`: each does what its effect says. It knows neither blocks nor
-//! turns.
+//! The instructions of flat code on a state, but built-ins: each does what its effect says. It knows neither blocks nor turns.
 #![tactic(auto)]
 
 mod acting;
 mod frames;
 pub mod laws;
 mod leaving;
-pub mod limits;
 mod making;
 mod registers;
+mod sight;
 mod step;
+mod switch;
 mod values;
 
 pub use acting::act;

@@ -1,7 +1,7 @@
 //! Blocks that an instruction makes.
 
 ghost use Rattle.std.specs.Prelude.{◌≡◌, ◌<◌, length, ◌∷◌};
-ghost use Rattle.rml_acts.specs.declared.limits.TheConstants.{LENGTH};
+ghost use Rattle.rml_code.specs.declared.limits.TheConstants.{LENGTH};
 ghost use Rattle.rml_code.specs.Frames.{registers_of};
 ghost use Rattle.rml_code.specs.Effects.{builds, con_head as head_of_con, tuple_head as head_of_tuple};
 ghost use Rattle.rml_acts.specs.Fine.{AreBelow};
