@@ -1,0 +1,4 @@
+pub mod Behind
+pub mod Callers
+pub mod Numbered
+pub mod Standing
