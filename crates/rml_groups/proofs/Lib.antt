@@ -1,0 +1,11 @@
+pub mod Held
+pub mod Forgotten
+pub mod Made
+pub mod Beginning
+pub mod Carried
+pub mod Counted
+pub mod Decided
+pub mod Spotted
+pub mod Searched
+pub mod Halved
+pub mod ReadOff

@@ -1,0 +1,4 @@
+pub mod Groups
+pub mod Members
+pub mod Spots
+pub mod Found
