@@ -1,11 +1,14 @@
 -- What an instruction may rest on, by what code keeps of it.
-use Rattle.std.specs.Prelude.{ℕ, ◌≡◌, ◌*◌, ◌<◌, ◌≤◌, ◌==◌, Bool, true, false, not, ◌&&◌, nat_lt, nat_le, List, [], ◌∷◌, length, slice_get}
+use Rattle.std.specs.Prelude.{ℕ, ◌≡◌, ◌*◌, ◌<◌, ◌≤◌, ◌==◌, Bool, true, false, not, ◌&&◌, nat_lt, nat_le, List, [], ◌∷◌, length, Option, Some, None, slice_get}
 use Rattle.std.specs.List.{list_all}
 use Rattle.std.proofs.Common.{inl, inr, ap, arith}
-use Rattle.std.proofs.lemmas.Bool.{ltb-true, leb-true}
+use Rattle.std.proofs.lemmas.Bool.{ltb-true, leb-true, eqb-true}
 use Rattle.std.proofs.lemmas.Bool.Decides.{leb_tells}
 use Rattle.std.proofs.lemmas.Option.{slice_get_past}
 use Rattle.rml_value.specs.declared.value.TheConstants.{CONS}
+use Rattle.rml_builtin.specs.declared.row.TheConstants.{ROWS}
+use Rattle.rml_builtin.specs.declared.row.Row.{Row}
+use Rattle.rml_builtin.specs.Table.{inputs_of, outputs_of}
 use Rattle.rml_code.specs.declared.limits.TheConstants.{CON_PARTS, PER_TOKEN, WEIGHT, LENGTH}
 use Rattle.rml_code.specs.declared.instructions.Word.{Word}
 use Rattle.rml_code.specs.declared.instructions.Word.TheVariants as word
@@ -18,9 +21,9 @@ use Rattle.rml_code.specs.declared.instructions.Instr.{Instr}
 use Rattle.rml_code.specs.declared.instructions.Instr.TheVariants as instr
 use Rattle.rml_code.specs.declared.constants.Constant.{Constant}
 use Rattle.rml_code.specs.declared.listing.Listing.{Listing}
-use Rattle.rml_code.specs.Fits.{word_fits, con_fits, is_counted, is_text, tag_fits, tags_differ, jump_fits, else_fits, case_fits, register_fits, registers_fit, instr_fits, is_small, is_light}
-use Rattle.rml_acts.specs.Fine.{AreBelow, IsLabel, IsFineWord, IsFineHalt, IsFineTag, AreFineCases, IsFine}
-use Rattle.rml_acts.specs.Kept.{IsQuiet}
+use Rattle.rml_code.specs.Fits.{word_fits, con_fits, is_counted, is_text, tag_fits, tags_differ, jump_fits, else_fits, case_fits, register_fits, registers_fit, row_fits, instr_fits, is_small, is_light}
+use Rattle.rml_acts.specs.Fine.{AreBelow, IsLabel, IsFineWord, IsFineHalt, IsFineTag, AreFineCases, IsFineRow, IsFine}
+use Rattle.rml_acts.specs.Kept.{IsQuietRow, PrintsNothing}
 use Rattle.rml_acts.proofs.Effects.{both-true}
 
 -- a text is there
@@ -99,7 +102,13 @@ module _ (l : Listing) (small : is_small l ≡ true) (light : is_light l ≡ tru
   halt-fine halt.Integer = one-register
   halt-fine halt.No = tt
 
-  pub instr-fine : (at : ℕ) (i : Instr) → instr_fits l at i ≡ true → IsQuiet i → IsFine l.registers (length l.constants) i
+  row-fine : (taken given : ℕ) (o : Option Row) → row_fits taken given o ≡ true → IsQuietRow o → IsFineRow taken given o
+  row-fine taken given None h quiet = absurd (cc)
+  row-fine taken given (Some row) h quiet =
+      let t = both-true (length (inputs_of row) == taken) (length (outputs_of row) == given) h in
+      (quiet, eqb-true (length (inputs_of row)) taken t.0, eqb-true (length (outputs_of row)) given t.1)
+
+  pub instr-fine : (at : ℕ) (i : Instr) → instr_fits l at i ≡ true → PrintsNothing i → IsFine l.registers (length l.constants) i
   instr-fine at (instr.Move a b) h quiet = let t = both-true (register_fits l a) (register_fits l b) h in (below a t.0, below b t.1)
   instr-fine at (instr.Word a w) h quiet = let t = both-true (register_fits l a) (word_fits l w) h in (below a t.0, word-fine w t.1)
   instr-fine at (instr.Const a i) h quiet = let t = both-true (register_fits l a) (nat_lt i (length l.constants)) h in (below a t.0, ltb-true i (length l.constants) t.1)
@@ -130,7 +139,12 @@ module _ (l : Listing) (small : is_small l ≡ true) (light : is_light l ≡ tru
   instr-fine at (instr.Resume rs) h quiet = all-below rs h
   instr-fine at (instr.Retry rs) h quiet = all-below rs h
   instr-fine at instr.Drop h quiet = tt
-  instr-fine at (instr.Builtin k rs ys e) h quiet = absurd quiet
+  instr-fine at (instr.Builtin k rs ys e) h quiet =
+      let row : Bool = row_fits (length rs) (length ys) (slice_get ROWS k) in
+      let three = both-true (row && registers_fit l rs && registers_fit l ys) (else_fits l at e) h in
+      let two = both-true (row && registers_fit l rs) (registers_fit l ys) three.0 in
+      let t = both-true row (registers_fit l rs) two.0 in
+      (row-fine (length rs) (length ys) (slice_get ROWS k) t.0 quiet, all-below rs t.1, all-below ys two.1)
   instr-fine at (instr.Equal a b e) h quiet =
       let two = both-true (register_fits l a && register_fits l b) (else_fits l at e) h in
       let t = both-true (register_fits l a) (register_fits l b) two.0 in

@@ -64,7 +64,7 @@ plain-otherwise : (e : Else) (s : State) → Fits s.trail s.heap → IsPlain s (
 plain-otherwise else.Fail s h = plain-label s.failure s h
 plain-otherwise (else.Block b) s h = plain-here (Jump b) s h
 
-length-loaded : (rs : List ℕ) (cells registers : List Cell) → length (loaded rs cells registers) ≡ length registers
+pub length-loaded : (rs : List ℕ) (cells registers : List Cell) → length (loaded rs cells registers) ≡ length registers
 length-loaded [] cells registers = refl
 length-loaded (r ∷ rs) [] registers = refl
 length-loaded (r ∷ rs) (c ∷ cells) registers = length-loaded rs cells (slice_set registers r c) ∙ length-set registers r c

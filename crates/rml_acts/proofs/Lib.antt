@@ -8,3 +8,5 @@ pub mod Sights
 pub mod Texts
 pub mod Switched
 pub mod FromCode
+pub mod Rows
+pub mod Silent

@@ -1,6 +1,9 @@
 -- What an instruction may rest on, by its numbers alone: registers and constants are there, and what it counts is counted in 32 bits.
-use Rattle.std.specs.Prelude.{ℕ, ◌<◌, ◌^◌, List, length, slice_index_or}
+use Rattle.std.specs.Prelude.{ℕ, ◌≡◌, ◌<◌, ◌^◌, IsTrue, List, length, Option, Some, None, slice_get, slice_index_or}
 use Rattle.std.specs.List.{AllByRecursion}
+use Rattle.rml_builtin.specs.declared.row.TheConstants.{ROWS}
+use Rattle.rml_builtin.specs.declared.row.Row.{Row}
+use Rattle.rml_builtin.specs.Table.{inputs_of, outputs_of, is_silent}
 use Rattle.rml_heap.specs.declared.cell.Cell.{Cell}
 use Rattle.rml_heap.specs.HeapState.{free_cell}
 use Rattle.rml_code.specs.declared.limits.TheConstants.{CON_PARTS, LENGTH}
@@ -41,7 +44,12 @@ IsFineTag m _ = Unit {0}
 abbrev pub AreFineCases : ℕ → List Case → Type 0
 AreFineCases m cases = AllByRecursion (λ (k : Case). IsFineTag m k.tag) cases
 
--- where there are so many registers, and so many constants; built-ins are not here
+-- a row that prints nothing, with so many arguments and results
+abbrev pub IsFineRow : ℕ → ℕ → Option Row → Type 0
+IsFineRow taken given None = ⊥
+IsFineRow taken given (Some row) = IsTrue (is_silent row) × (length (inputs_of row) ≡ taken) × (length (outputs_of row) ≡ given)
+
+-- where there are so many registers, and so many constants; `print` is not here
 abbrev pub IsFine : ℕ → ℕ → Instr → Type 0
 IsFine n m (instr.Move a b) = (a < n) × (b < n)
 IsFine n m (instr.Word a w) = (a < n) × IsFineWord w
@@ -57,6 +65,6 @@ IsFine n m (instr.Retry rs) = AreBelow n rs
 IsFine n m (instr.Equal a b e) = (a < n) × (b < n)
 IsFine n m (instr.CallRegister a) = a < n
 IsFine n m (instr.Halt h) = IsFineHalt n h
-IsFine n m (instr.Builtin k rs ys e) = ⊥
+IsFine n m (instr.Builtin k rs ys e) = IsFineRow (length rs) (length ys) (slice_get ROWS k) × AreBelow n rs × AreBelow n ys
 IsFine n m (instr.Switch a cases e) = (a < n) × AreFineCases m cases
 IsFine n m _ = Unit {0}

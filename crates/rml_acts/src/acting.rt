@@ -5,7 +5,9 @@ ghost use Rattle.rml_trail.specs.TrailState.{Fits};
 ghost use Rattle.rml_code.specs.Effects.{effect};
 ghost use Rattle.rml_acts.specs.Fine.{IsFine};
 ghost use Rattle.rml_acts.specs.Did.{next_of, IsRight};
+ghost use Rattle.rml_acts.specs.Kept.{IsQuiet};
 
+use crate::built_in::run;
 use crate::frames::{enter, forget, guard, resume, retry, save};
 use crate::leaving::{call, halt};
 use crate::making::{CONS_HEAD, build, con_head, tuple_head};
@@ -15,8 +17,26 @@ use crate::switch::choose;
 use crate::values::{compare, take_part};
 use rml_code::{Instr, State};
 
-/// One instruction that is no built-in. It takes no memory, and tests nothing that its effect rules out.
+/// One instruction that does not print. It takes no memory, and tests nothing that its effect rules out.
 pub fn act(instr: &Instr, state: &mut State) -> Step
+    requires fits { Fits state.old.trail state.old.heap }
+    requires fine { IsFine (length state.old.registers) (length state.old.constants) instr.now }
+    requires right { IsRight (effect instr.now state.old) }
+    ensures next { next_of result ≡ (effect instr.now state.old).next }
+    ensures state { state.new ≡ (effect instr.now state.old).state }
+    ensures fits { Fits state.new.trail state.new.heap }
+{
+    match instr {
+        Instr::Builtin(number, rs, ys, otherwise) => {
+            run(state, *number, rs.as_slice(), ys.as_slice(), *otherwise)
+        }
+        _ => act_quietly(instr, state),
+    }
+}
+
+/// One instruction that is no built-in.
+fn act_quietly(instr: &Instr, state: &mut State) -> Step
+    requires quiet { IsQuiet instr.now }
     requires fits { Fits state.old.trail state.old.heap }
     requires fine { IsFine (length state.old.registers) (length state.old.constants) instr.now }
     requires right { IsRight (effect instr.now state.old) }

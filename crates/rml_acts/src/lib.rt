@@ -1,7 +1,8 @@
-//! The instructions of flat code on a state, but built-ins: each does what its effect says. It knows neither blocks nor turns.
+//! The instructions of flat code on a state: each does what its effect says. It knows neither blocks nor turns.
 #![tactic(auto)]
 
 mod acting;
+mod built_in;
 mod frames;
 pub mod laws;
 mod leaving;

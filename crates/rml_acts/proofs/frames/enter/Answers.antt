@@ -1,6 +1,6 @@
-use Rattle.std.proofs.Common.{◌≡◌, ℕ, ◌+◌, ◌≤◌, length, inr, ap, sym, ◌∙◌, arith, refl}
+use Rattle.std.proofs.Common.{ap, arith}
 use Rattle.rml_code.specs.Stretch.{Stretch}
-use Rattle.rml_acts.proofs.Framed.{Enters, enters}
+use Rattle.rml_acts.proofs.Framed.{enters}
 use Rattle.rml_acts.proofs.frames.enter.Goals as goal
 
 pub frame_cell-requires : goal.frame_cell-requires

@@ -1,5 +1,5 @@
-use Rattle.std.proofs.Common.{◌≡◌, ℕ, ◌+◌, ◌≤◌, length, inr, ap, sym, ◌∙◌, arith, refl}
-use Rattle.rml_acts.proofs.Framed.{Forgets, forgets}
+use Rattle.std.proofs.Common.{arith}
+use Rattle.rml_acts.proofs.Framed.{forgets}
 use Rattle.rml_acts.proofs.frames.forget.Goals as goal
 
 pub frame_cell-requires : goal.frame_cell-requires

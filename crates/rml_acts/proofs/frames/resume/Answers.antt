@@ -1,7 +1,7 @@
-use Rattle.std.proofs.Common.{◌≡◌, ℕ, ◌+◌, ◌≤◌, length, inr, ap, sym, ◌∙◌, arith, refl}
+use Rattle.std.proofs.Common.{ap, ◌∙◌, arith}
 use Rattle.rml_heap.specs.declared.cell.Cell.{Cell}
 use Rattle.rml_heap.specs.Form.{address}
-use Rattle.rml_acts.proofs.Framed.{Resumes, resumes, resumed-as}
+use Rattle.rml_acts.proofs.Framed.{resumes, resumed-as}
 use Rattle.rml_acts.proofs.frames.resume.Goals as goal
 
 pub frame_cell-requires : goal.frame_cell-requires

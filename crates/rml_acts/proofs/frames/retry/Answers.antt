@@ -1,9 +1,9 @@
-use Rattle.std.proofs.Common.{◌≡◌, ℕ, ◌+◌, ◌≤◌, length, inr, ap, sym, ◌∙◌, arith, refl, subst}
+use Rattle.std.proofs.Common.{length, ap, sym, ◌∙◌, arith, subst}
 use Rattle.rml_heap.specs.declared.cell.Cell.{Cell}
-use Rattle.rml_heap.specs.HeapState.{HeapState, bottom_of}
+use Rattle.rml_heap.specs.HeapState.{HeapState}
 use Rattle.rml_heap.specs.Form.{address}
 use Rattle.rml_trail.specs.TrailState.{Fits}
-use Rattle.rml_acts.proofs.Framed.{Retries, retries, Undoes, undoes-frames, retried-as, retried-fits}
+use Rattle.rml_acts.proofs.Framed.{retries, undoes-frames, retried-as, retried-fits}
 use Rattle.rml_acts.proofs.frames.retry.Goals as goal
 
 pub frame_cell-requires : goal.frame_cell-requires

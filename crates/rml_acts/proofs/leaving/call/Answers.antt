@@ -1,6 +1,6 @@
-use Rattle.std.proofs.Common.{ap, sym, ◌∙◌}
+use Rattle.std.proofs.Common.{ap, ◌∙◌}
 use Rattle.rml_heap.specs.declared.cell.Cell.{Cell}
-use Rattle.rml_code.specs.Stretch.{Next, Turn, Stretch}
+use Rattle.rml_code.specs.Stretch.{Turn, Stretch}
 use Rattle.rml_acts.proofs.Looked.{calls}
 use Rattle.rml_heap.specs.Form.{or_zero}
 use Rattle.rml_acts.proofs.leaving.call.Goals as goal

@@ -6,7 +6,7 @@ use Rattle.rml_code.specs.Seen.{seen_at}
 use Rattle.std.specs.Prelude.{Some}
 use Rattle.std.specs.Int.{w64}
 use Rattle.std.proofs.lemmas.Int.{to_z-of_z}
-use Rattle.rml_acts.proofs.Sights.{see-int, SeenChar, see-char, see-con, SeenBlock, see-block}
+use Rattle.rml_acts.proofs.Sights.{see-int, see-char, see-con, see-block}
 use Rattle.rml_acts.proofs.sight.see.Goals as goal
 
 pub returns-in-0 : goal.returns-in-0

@@ -1,4 +1,4 @@
-use Rattle.std.proofs.Common.{◌≡◌, ℕ, ap, sym, ◌∙◌, inl, arith}
+use Rattle.std.proofs.Common.{ℕ, ap, sym, ◌∙◌, inl, arith}
 use Rattle.rml_heap.specs.declared.cell.Cell.{Cell}
 use Rattle.std.specs.Prelude.{◌/◌}
 use Rattle.rml_heap.specs.Form.{or_zero}

@@ -1,6 +1,6 @@
-use Rattle.std.proofs.Common.{◌≡◌, ap, sym, ◌∙◌, refl}
+use Rattle.std.proofs.Common.{ap, sym, ◌∙◌, refl}
 use Rattle.rml_code.specs.Stretch.{Stretch}
-use Rattle.rml_acts.proofs.Switched.{Switches, switched, chosen-then, chosen-end, switch-stays}
+use Rattle.rml_acts.proofs.Switched.{switched, chosen-then, chosen-end, switch-stays}
 use Rattle.rml_acts.proofs.switch.choose.Goals as goal
 
 pub see-sight-requires : goal.see-sight-requires

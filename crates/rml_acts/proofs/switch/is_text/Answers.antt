@@ -1,4 +1,4 @@
-use Rattle.std.proofs.Common.{◌≡◌, ℕ, ◌+◌, ◌<◌, ◌≤◌, suc, ap, sym, subst, ◌∙◌, arith, inl, length}
+use Rattle.std.proofs.Common.{◌+◌, sym, arith, inl}
 use Rattle.std.specs.Prelude.{◌/◌}
 use Rattle.rml_acts.proofs.Texts.{text-inside, text-set, other-kind, counted, tested-text}
 use Rattle.rml_acts.proofs.switch.is_text.Goals as goal

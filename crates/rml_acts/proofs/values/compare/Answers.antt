@@ -1,4 +1,4 @@
-use Rattle.std.proofs.Common.{◌≡◌, ap, sym, ◌∙◌, subst}
+use Rattle.std.proofs.Common.{ap, sym, ◌∙◌, subst}
 use Rattle.rml_heap.specs.HeapState.{HeapState}
 use Rattle.rml_code.specs.declared.state.State.{State}
 use Rattle.rml_code.specs.Stretch.{Stretch}

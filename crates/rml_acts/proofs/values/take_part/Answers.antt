@@ -1,10 +1,7 @@
-use Rattle.std.proofs.Common.{◌≡◌, ◌+◌, ap, sym, subst, ◌∙◌, arith, inl, length, ◌<◌}
-use Rattle.std.specs.Prelude.{slice_index_or}
+use Rattle.std.proofs.Common.{ap, ◌∙◌, arith, inl}
 use Rattle.rml_heap.specs.declared.cell.Cell.{Cell}
 use Rattle.rml_heap.specs.Form.{address}
-use Rattle.rml_code.specs.Frames.{put, register}
-use Rattle.rml_code.specs.Effects.{behind}
-use Rattle.rml_acts.proofs.Looked.{Takes, takes, taken}
+use Rattle.rml_acts.proofs.Looked.{takes, taken}
 use Rattle.rml_acts.proofs.values.take_part.Goals as goal
 
 pub overflow_cast-i : goal.overflow_cast-i
