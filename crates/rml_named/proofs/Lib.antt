@@ -1,0 +1,4 @@
+pub mod Turns
+pub mod Alike
+pub mod Rows
+pub mod Callers
