@@ -88,12 +88,7 @@ fn texts(
 }
 
 /// What the names of the texts are.
-fn env(
-    alloc: Global,
-    names: &mut Names,
-    files: &[Bytes],
-    texts: &[Text],
-) -> Result<Env, Refusal> {
+fn env(alloc: Global, names: &mut Names, files: &[Bytes], texts: &[Text]) -> Result<Env, Refusal> {
     if texts.len() > 64 || files.len() != texts.len() {
         return Err(Refusal::Memory);
     }
