@@ -1,7 +1,9 @@
-//! Small programs that are built by hand, and tests over them: how searches end, and the text of their clauses. There is
-//! nothing else here.
+//! Small programs that are built by hand, and tests over them: how searches end, the text of their clauses, and how these end.
+//! There is nothing else here.
 #![tactic(auto)]
 
+#[cfg(test)]
+mod clause_runs;
 #[cfg(test)]
 mod clauses;
 #[cfg(test)]

@@ -1,0 +1,10 @@
+pub mod Vals
+pub mod Calls
+pub mod Steps
+pub mod Lengths
+pub mod Weighed
+pub mod Follows
+pub mod Smaller
+pub mod Turns
+pub mod Firsts
+pub mod Ends
