@@ -361,3 +361,124 @@ const PARAMETERS: [Row; 2] = [
 fn abstypes_have_one_number_of_parameters(rt: HostRuntime) -> Result<(), Fail> {
     expect(&rt, &PARAMETERS)
 }
+
+/// Abstypes that are defined in circles.
+const CIRCLES: [Row; 7] = [
+    (
+        "abstype t",
+        "type @t = t list",
+        Some(ModFault::CircularInterfaces),
+    ),
+    (
+        "abstype a abstype b",
+        "type @a = b list type b = a list",
+        Some(ModFault::CircularInterfaces),
+    ),
+    ("abstype a abstype b", "type a = int type b = a list", None),
+    ("abstype t", "type 'a k = int type t = t k", None),
+    (
+        "abstype t",
+        "type 'a k = 'a list type @t = t k",
+        Some(ModFault::CircularInterfaces),
+    ),
+    (
+        "abstype t",
+        "type @t = int t",
+        Some(ModFault::CircularInterfaces),
+    ),
+    ("abstype t", "datatype t = A of t", None),
+];
+
+#[test]
+fn abstypes_are_not_defined_in_circles(rt: HostRuntime) -> Result<(), Fail> {
+    expect(&rt, &CIRCLES)
+}
+
+/// Types that interface and body give.
+const TYPES: [Row; 16] = [
+    (
+        "relation f: int => int",
+        "relation @f: int => char = axiom f(x) => #\"a\" end",
+        Some(ModFault::InterfaceMismatch),
+    ),
+    (
+        "relation f: 'a => 'b",
+        "relation f: 'c => 'd = axiom f(x) => x end",
+        None,
+    ),
+    (
+        "relation f: ('a, 'b) => 'a",
+        "relation f: ('b, 'a) => 'b = axiom f(x, y) => x end",
+        None,
+    ),
+    (
+        "relation f: ('a, 'b) => 'a",
+        "relation @f: ('a, 'a) => 'a = axiom f(x, y) => x end",
+        Some(ModFault::InterfaceMismatch),
+    ),
+    (
+        "relation f: ('a, 'a) => 'a",
+        "relation @f: ('a, 'b) => 'a = axiom f(x, y) => x end",
+        Some(ModFault::InterfaceMismatch),
+    ),
+    (
+        "relation f: (int * int) => int",
+        "relation @f: (int, int) => int = axiom f(x, y) => x end",
+        Some(ModFault::InterfaceMismatch),
+    ),
+    (
+        "type t = int relation f: t => t",
+        "relation f: int => int = axiom f(x) => x end",
+        None,
+    ),
+    (
+        "type 'a t = 'a list type u = int t relation f: u => int",
+        "relation f: int list => int = axiom f(x) => 1 end",
+        None,
+    ),
+    (
+        "type 'a t = 'a list relation f: int t => int",
+        "relation @f: char list => int = axiom f(x) => 1 end",
+        Some(ModFault::InterfaceMismatch),
+    ),
+    (
+        "abstype t relation f: t => int",
+        "type t = int relation f: int => int = axiom f(x) => x end",
+        None,
+    ),
+    (
+        "abstype t relation f: t => int",
+        "datatype t = A relation @f: int => int = axiom f(x) => x end",
+        Some(ModFault::InterfaceMismatch),
+    ),
+    (
+        "val v: int",
+        "val @v: char = 1",
+        Some(ModFault::InterfaceMismatch),
+    ),
+    (
+        "val v: int list",
+        "type 'a l = 'a list val v: int l = [1]",
+        None,
+    ),
+    (
+        "val @v: int",
+        "relation v: int => int = axiom v(x) => x end",
+        Some(ModFault::NotDefined),
+    ),
+    (
+        "relation f: int => int",
+        "relation @f: nosuch => int = axiom f(x) => 1 end",
+        Some(ModFault::InterfaceMismatch),
+    ),
+    (
+        "relation f: @nosuch => int",
+        "relation f: nosuch => int = axiom f(x) => 1 end",
+        Some(ModFault::UnknownName),
+    ),
+];
+
+#[test]
+fn interface_and_body_give_one_type(rt: HostRuntime) -> Result<(), Fail> {
+    expect(&rt, &TYPES)
+}

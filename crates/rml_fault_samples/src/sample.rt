@@ -4,11 +4,12 @@ use rml_base::{Bytes, Memory, Names, Place};
 use rml_outlines::{Entries, TypeEntry, TypeKind, ValueEntry};
 use rml_reading::known_of;
 use rml_scopes::{Found, ModFault, World};
+use rml_signatures::types_of;
 use rml_stages::{Refusal, read_text};
-use rml_syntax::{Decl, Text};
+use rml_syntax::Text;
 use rml_tables::Table;
+use rml_type_facts::{mains_of, type_facts};
 use rml_walks::least_fault;
-use sqlite_items::Items;
 use std::alloc::{AllocError, Global};
 
 /// What of the prelude the samples name.
@@ -160,21 +161,6 @@ fn built(alloc: Global, names: &mut Names) -> Result<Entries, Memory> {
     Ok(Entries { types, values })
 }
 
-/// The places of the relations `main`, which have a fitting type in all samples.
-fn mains(alloc: Global, main: u32, texts: &[Text]) -> Result<Vec<Place>, Memory> {
-    let mut places = Vec::new(alloc);
-    for text in texts {
-        for spec in text.specs.as_slice() {
-            if let Decl::Relation(name, place, _, _) = spec {
-                if *name == main {
-                    places.push(*place)?;
-                }
-            }
-        }
-    }
-    Ok(places)
-}
-
 /// The least fault of a set.
 fn found(alloc: Global, set: &Set) -> Result<Option<Found>, Refusal> {
     let mut names = Names::new(alloc);
@@ -201,11 +187,11 @@ fn least(
     if texts.len() > 64 || set.files.len() != texts.len() {
         return Err(Refusal::Memory);
     }
-    let world = World {
-        known: known_of(alloc, names, &set.files, prelude, built, texts)?,
-        facts: Items::new(alloc),
-    };
-    let mains = mains(alloc, main, texts)?;
+    let known = known_of(alloc, names, &set.files, prelude, built, texts)?;
+    let types = types_of(alloc, &known, texts)?;
+    let facts = type_facts(alloc, &known, texts, &types)?;
+    let mains = mains_of(alloc, &known, texts, &types, main)?;
+    let world = World { known, facts };
     Ok(least_fault(alloc, &world, texts, &mains)?)
 }
 

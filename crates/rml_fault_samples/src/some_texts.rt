@@ -167,3 +167,53 @@ const LEAST: [Row; 5] = [
 fn the_least_fault_is_told(rt: HostRuntime) -> Result<(), Fail> {
     expect(&rt, &LEAST)
 }
+
+/// Types of `main`.
+const MAIN_TYPES: [Row; 5] = [
+    (
+        "a.rml: module a: relation main: int => () end relation main = axiom main(_) end@",
+        Some(ModFault::NoMain),
+    ),
+    (
+        "a.rml: module a: relation main: string list => char end relation main = axiom main(_) => #\"a\" end@",
+        Some(ModFault::NoMain),
+    ),
+    (
+        "a.rml: module a: type s = string list relation main: s => int end relation main = axiom main(_) => 1 end",
+        None,
+    ),
+    (
+        "a.rml: module a: abstype s relation main: s => () end type s = string list relation main = axiom main(_) end@",
+        Some(ModFault::NoMain),
+    ),
+    (
+        "a.rml: module a: relation main: int => () end relation main = axiom main(_) end % b.rml: module b: relation main: string list => () end relation main = axiom main(_) end",
+        None,
+    ),
+];
+
+#[test]
+fn main_has_one_of_two_types(rt: HostRuntime) -> Result<(), Fail> {
+    expect(&rt, &MAIN_TYPES)
+}
+
+/// Types of other texts.
+const OTHER_TYPES: [Row; 3] = [
+    (
+        "b.rml: module b: type t = int end % a.rml: module a: with \"b.rml\" relation f: b.t => int relation main: string list => () end relation f: int => int = axiom f(x) => x end relation main = axiom main(_) end",
+        None,
+    ),
+    (
+        "b.rml: module b: abstype t end type t = int % a.rml: module a: with \"b.rml\" relation f: b.t => int relation main: string list => () end relation @f: int => int = axiom f(x) => x end relation main = axiom main(_) end",
+        Some(ModFault::InterfaceMismatch),
+    ),
+    (
+        "a.rml: module a: abstype t relation main: string list => () end with \"b.rml\" type @t = b.u list relation main = axiom main(_) end % b.rml: module b: abstype u end with \"a.rml\" type u = a.t",
+        Some(ModFault::CircularInterfaces),
+    ),
+];
+
+#[test]
+fn types_of_other_texts_are_compared(rt: HostRuntime) -> Result<(), Fail> {
+    expect(&rt, &OTHER_TYPES)
+}
